@@ -1,0 +1,3 @@
+pub mod Frontiers
+pub mod Counts
+pub mod Tables

@@ -1,0 +1,2 @@
+mod lists;
+pub use lists::is_beyond;
