@@ -132,3 +132,10 @@ module _ {A : Type 0} {below : A → A → Bool} (order : Order below) where
   pub antichain-inserted-all : (es xs : List A) → Antichain below es → Antichain below (inserted-all below es xs)
   antichain-inserted-all es [] a = a
   antichain-inserted-all es (x ∷ xs) a = antichain-inserted-all (inserted below es x) xs (antichain-inserted es x a)
+
+  -- two frontiers are equal exactly when each is at or before the other
+  pub equal-by-order : (xs ys : List A) → Antichain below xs → Antichain below ys → equal below xs ys ≡ (leq below xs ys && leq below ys xs)
+  equal-by-order xs ys a b =
+      iff-≡ (equal below xs ys) (leq below xs ys && leq below ys xs)
+      (λ h. and-intro (leq below xs ys) (leq below ys xs) (equal-leq xs ys h) (equal-geq xs ys h))
+      (λ h. equal-from xs ys a b (and-left (leq below xs ys) (leq below ys xs) h) (and-right (leq below xs ys) (leq below ys xs) h))

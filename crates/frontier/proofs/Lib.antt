@@ -1,3 +1,4 @@
+pub mod Walks
 pub mod Beyond
 pub mod Joining
 pub mod Antichains

@@ -1,2 +1,12 @@
+// Frontiers and counts, written once for every kind of time.
+//
+// A table is a lent slice whose first entries are in use.  A frontier has at most 32 times, so a
+// table for one has at least 32 entries; a longer one is taken, and its further entries are left
+// alone.  A refused call leaves every table as it was.
 mod lists;
+
+pub use lists::antichain_equal;
+pub use lists::antichain_less_equal;
 pub use lists::is_beyond;
+pub use lists::is_beyond_join;
+pub use lists::is_beyond_meet;
