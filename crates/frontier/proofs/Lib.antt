@@ -1,4 +1,6 @@
+pub mod Tables
 pub mod Walks
 pub mod Beyond
 pub mod Joining
 pub mod Antichains
+pub mod Inserting

@@ -1,7 +1,7 @@
 -- Lent tables: the first entries of a slice are in use, and read as a list of values.
 use mathlib.Core.Path.{_≡_}
 use mathlib.Core.Bool.{Bool, _&&_}
-use mathlib.Core.List.{List, map}
+use mathlib.Core.List.{List, [], _∷_, map}
 use Prim.Native.Nat.{ℕ}
 use lib.Dec.{leb}
 use lib.IntN.{ℤ}
@@ -26,3 +26,7 @@ sized size used n = leb used size && leb size n
 -- an entry of a table of counts, by the time's value
 abbrev pub counted : {X A : Type 0} → (X → A) → (X × ℤ) → (A × ℤ)
 counted value e = (value (e .0), e .1)
+
+-- what a call on a frontier's table asks: its size (1), and that no more than 32 times stand in it after each insert (12)
+abbrev pub frontier-asks : ℕ → ℕ → Bool → List (Bool × ℕ)
+frontier-asks n used few = (sized frontier-size used n, 1) ∷ (few, 12) ∷ []

@@ -3,10 +3,15 @@
 // A table is a lent slice whose first entries are in use.  A frontier has at most 32 times, so a
 // table for one has at least 32 entries; a longer one is taken, and its further entries are left
 // alone.  A refused call leaves every table as it was.
+mod antichain;
 mod lists;
 
+pub use antichain::insert;
 pub use lists::antichain_equal;
 pub use lists::antichain_less_equal;
 pub use lists::is_beyond;
 pub use lists::is_beyond_join;
 pub use lists::is_beyond_meet;
+
+// The times that a frontier has at most, and the entries that a table for one has at least.
+pub const FRONTIER_SIZE: usize = 32;
