@@ -4,3 +4,4 @@ pub mod Beyond
 pub mod Joining
 pub mod Antichains
 pub mod Inserting
+pub mod Filling

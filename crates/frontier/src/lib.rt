@@ -5,6 +5,7 @@
 // alone.  A refused call leaves every table as it was.
 mod antichain;
 mod lists;
+pub mod steps;
 
 pub use antichain::insert;
 pub use lists::antichain_equal;

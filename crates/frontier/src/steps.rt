@@ -1,0 +1,83 @@
+// Steps that our own crates share.
+//
+// Where a step refuses, what it wrote into its table stays there.  So callers hand it a scratch
+// table, and take over what it made only when it was accepted.
+ghost use mathlib.Core.Path.{_≡_};
+ghost use mathlib.Core.List.{map, []};
+ghost use lib.ListN.{length, drop};
+ghost use Rattle.questions.specs.Answers.{Answered};
+ghost use Rattle.frontier.specs.Frontiers.{inserted-all, fits, pairwise, join};
+ghost use Rattle.frontier.specs.Tables.{in-use, Holds, frontier-asks, frontier-size};
+use crate::FRONTIER_SIZE;
+use crate::insert;
+use lattice::Lattice;
+use lattice::PartialOrder;
+use questions::Refusal;
+
+// Inserts each time of the list, in its order, into the frontier that stands in the first `len`
+// entries, and tells how many times it has then.
+pub fn extend<T: PartialOrder + Copy>(
+    table: &mut [T],
+    len: usize,
+    list: &[T],
+) -> Result<usize, Refusal>
+    ensures answer { λ r. ⌜ Answered r
+        (frontier-asks (length (now (table .entry))) len (fits below frontier-size (in-use value len (now (table .entry))) (map value (now (list .entry)))))
+        (λ n. Holds value n (now (table .exit)) (inserted-all below (in-use value len (now (table .entry))) (map value (now (list .entry)))))
+        (Unit {0}) ⌝ }
+    ensures rest { λ _. ⌜ drop frontier-size (now (table .exit)) ≡ drop frontier-size (now (table .entry)) ⌝ }
+{
+    if len > FRONTIER_SIZE || table.len() < FRONTIER_SIZE {
+        return Err(Refusal::ShortTable);
+    }
+    let mut n = len;
+    for t in list {
+        n = insert(table, n, *t)?;
+    }
+    Ok(n)
+}
+
+// Inserts the join of a time with each time of the list, as `extend` does.
+fn extend_by_joins<T: Lattice + Copy>(
+    table: &mut [T],
+    len: usize,
+    time: &T,
+    list: &[T],
+) -> Result<usize, Refusal>
+    ensures answer { λ r. ⌜ Answered r
+        (frontier-asks (length (now (table .entry))) len (fits (T·PartialOrder .below) frontier-size (in-use (T·PartialOrder .value) len (now (table .entry))) (map (joined (T·PartialOrder .value (now (time .entry)))) (map (T·PartialOrder .value) (now (list .entry))))))
+        (λ n. Holds (T·PartialOrder .value) n (now (table .exit)) (inserted-all (T·PartialOrder .below) (in-use (T·PartialOrder .value) len (now (table .entry))) (map (joined (T·PartialOrder .value (now (time .entry)))) (map (T·PartialOrder .value) (now (list .entry))))))
+        (Unit {0}) ⌝ }
+    ensures rest { λ _. ⌜ drop frontier-size (now (table .exit)) ≡ drop frontier-size (now (table .entry)) ⌝ }
+{
+    if len > FRONTIER_SIZE || table.len() < FRONTIER_SIZE {
+        return Err(Refusal::ShortTable);
+    }
+    let mut n = len;
+    for t in list {
+        n = insert(table, n, time.join(t))?;
+    }
+    Ok(n)
+}
+
+// Makes the join of two lists in a table, the first list outermost.
+pub fn join_into<T: Lattice + Copy>(
+    one: &[T],
+    other: &[T],
+    table: &mut [T],
+) -> Result<usize, Refusal>
+    ensures answer { λ r. ⌜ Answered r
+        (frontier-asks (length (now (table .entry))) 0 (fits (T·PartialOrder .below) frontier-size [] (pairwise joined (map (T·PartialOrder .value) (now (one .entry))) (map (T·PartialOrder .value) (now (other .entry))))))
+        (λ n. Holds (T·PartialOrder .value) n (now (table .exit)) (join (T·PartialOrder .below) joined (map (T·PartialOrder .value) (now (one .entry))) (map (T·PartialOrder .value) (now (other .entry)))))
+        (Unit {0}) ⌝ }
+    ensures rest { λ _. ⌜ drop frontier-size (now (table .exit)) ≡ drop frontier-size (now (table .entry)) ⌝ }
+{
+    if table.len() < FRONTIER_SIZE {
+        return Err(Refusal::ShortTable);
+    }
+    let mut n = 0usize;
+    for t in one {
+        n = extend_by_joins(table, n, t, other)?;
+    }
+    Ok(n)
+}
