@@ -1,21 +1,26 @@
 -- A frontier that is filled time by time: how the filling goes on, stops and ends.
 use mathlib.Core.Path.{_≡_, refl, sym, ap, _∙_}
-use mathlib.Core.List.{List, [], _∷_, _++_}
+use mathlib.Core.List.{List, [], _∷_, _++_, map}
 use mathlib.Core.Bool.{Bool, true, false, _&&_}
 use Prim.Native.Nat.{ℕ, _≤_}
 use native.Mathlib.Omega.{arith}
 use lib.Dec.{leb}
-use lib.ListN.{length}
+use lib.ListN.{length, take}
 use Rattle.std.specs.declared.option.Option.the-variants.{Some, None}
 use Rattle.std.proofs.shelf.Tests.{and-left, and-parts, leb-true}
 use Rattle.questions.specs.Questions.{first-no}
 use Rattle.frontier.specs.Frontiers.{inserted, inserted-all, fits}
-use Rattle.frontier.specs.Tables.{in-use, Holds, frontier-size, frontier-asks}
-use Rattle.frontier.proofs.Tables.{length-in-use, accepted, refused-many, times-fit, times-many}
+use Rattle.frontier.specs.Tables.{in-use, Holds, sized, frontier-size, frontier-asks}
+use Rattle.frontier.proofs.Tables.{length-in-use, sized-yes, accepted, refused-many, times-fit, times-many}
 
 and-true : (b : Bool) → b ≡ (b && true)
 and-true true = refl
 and-true false = refl
+
+either-way : (a b c : Bool) (f : ℕ) → first-no ((a, 1) ∷ (b, 12) ∷ []) ≡ Some f → first-no ((a, 1) ∷ (b && c, 12) ∷ []) ≡ Some f
+either-way true true c f e = let z : _≡_ {A = ℕ} 0 1 = cc in absurd (omega arith)
+either-way true false c f e = e
+either-way false b c f e = e
 
 -- inserting all into the start comes to what inserting the rest into the front comes to
 pub record Filling {A : Type 0} (below : A → A → Bool) (n : ℕ) (start all front rest : List A) : Type 0 where
@@ -76,3 +81,24 @@ pub filled : {X A : Type 0} (below : A → A → Bool) (value : X → A) (start 
 filled below value start all left n xs long none fill l len h k =
     let made = fill .made ∙ ap (inserted-all below (in-use value n xs)) none in
     (times-fit l len (fits below frontier-size start all) h k (fill .room ∙ ap (fits below frontier-size (in-use value n xs)) none), (sym made, ap length made ∙ length-in-use value n xs long))
+
+-- a list that is inserted before another: refused with it, or gone on from
+module _ {X A : Type 0} (below : A → A → Bool) (value : X → A) (start xs ys : List A) (l : ℕ) where
+  pub stops-first : (used f : ℕ) → first-no (frontier-asks l used (fits below frontier-size start xs)) ≡ Some f → first-no (frontier-asks l used (fits below frontier-size start (xs ++ ys))) ≡ Some f
+  stops-first used f e = ap (λ b. first-no (frontier-asks l used b)) (fits-append below frontier-size start xs ys) ∙ either-way (sized frontier-size used l) (fits below frontier-size start xs) (fits below frontier-size (inserted-all below start xs) ys) f e
+
+  pub goes-second : (used n : ℕ) (table : List X) → length start ≡ used → first-no (frontier-asks l used (fits below frontier-size start xs)) ≡ None → Holds value n table (inserted-all below start xs) → first-no (frontier-asks l n (fits below frontier-size (in-use value n table) ys)) ≡ first-no (frontier-asks l used (fits below frontier-size start (xs ++ ys)))
+  goes-second used n table size e made =
+      let told = accepted l used (fits below frontier-size start xs) e in
+      let few : n ≤ frontier-size = omega (arith, made .1, told .0, fits-length below frontier-size start xs (omega (arith, told .0)) (told .2)) in
+      let same : fits below frontier-size start (xs ++ ys) ≡ fits below frontier-size (in-use value n table) ys = fits-append below frontier-size start xs ys ∙ ap (λ b. b && fits below frontier-size (inserted-all below start xs) ys) (told .2) ∙ ap (λ es. fits below frontier-size es ys) (sym (made .0)) in
+      ap (λ b. first-no ((b, 1) ∷ (fits below frontier-size (in-use value n table) ys, 12) ∷ [])) (sized-yes frontier-size n l few (told .1) ∙ sym (sized-yes frontier-size used l (told .0) (told .1)))
+      ∙ ap (λ b. first-no (frontier-asks l used b)) (sym same)
+
+-- a frontier made from nothing, and copied from the table in which it was made
+module _ {X A : Type 0} (below : A → A → Bool) (value : X → A) (all : List A) (n : ℕ) (xs : List X) (made : Holds value n xs (inserted-all below [] all)) where
+  pub made-few : (l : ℕ) → first-no (frontier-asks l 0 (fits below frontier-size [] all)) ≡ None → n ≤ frontier-size
+  made-few l e = omega (arith, made .1, fits-length below frontier-size [] all (omega arith) (accepted l 0 (fits below frontier-size [] all) e .2))
+
+  pub made-copied : (ys : List X) → take n ys ≡ take n xs → Holds value n ys (inserted-all below [] all)
+  made-copied ys e = (ap (map value) e ∙ made .0, made .1)

@@ -3,10 +3,11 @@
 // Where a step refuses, what it wrote into its table stays there.  So callers hand it a scratch
 // table, and take over what it made only when it was accepted.
 ghost use mathlib.Core.Path.{_≡_};
-ghost use mathlib.Core.List.{map, []};
-ghost use lib.ListN.{length, drop};
+ghost use mathlib.Core.List.{map, [], _++_};
+ghost use Prim.Native.Nat.{_≤_};
+ghost use lib.ListN.{length, take, drop};
 ghost use Rattle.questions.specs.Answers.{Answered};
-ghost use Rattle.frontier.specs.Frontiers.{inserted-all, fits, pairwise, join};
+ghost use Rattle.frontier.specs.Frontiers.{inserted-all, fits, pairwise, join, meet};
 ghost use Rattle.frontier.specs.Tables.{in-use, Holds, frontier-asks, frontier-size};
 use crate::FRONTIER_SIZE;
 use crate::insert;
@@ -80,4 +81,30 @@ pub fn join_into<T: Lattice + Copy>(
         n = extend_by_joins(table, n, t, other)?;
     }
     Ok(n)
+}
+
+// Makes the meet of two lists in a table, the first list first.
+pub fn meet_into<T: PartialOrder + Copy>(
+    one: &[T],
+    other: &[T],
+    table: &mut [T],
+) -> Result<usize, Refusal>
+    ensures answer { λ r. ⌜ Answered r
+        (frontier-asks (length (now (table .entry))) 0 (fits below frontier-size [] (map value (now (one .entry)) ++ map value (now (other .entry)))))
+        (λ n. Holds value n (now (table .exit)) (meet below (map value (now (one .entry))) (map value (now (other .entry)))))
+        (Unit {0}) ⌝ }
+    ensures rest { λ _. ⌜ drop frontier-size (now (table .exit)) ≡ drop frontier-size (now (table .entry)) ⌝ }
+{
+    let n = extend(table, 0, one)?;
+    extend(table, n, other)
+}
+
+// Copies the first `n` entries of one table to the front of another.
+pub fn copy_entries<X: Copy>(from: &[X], to: &mut [X], n: usize)
+    requires { ⌜ n ≤ length (now from) ⌝ ∗ ⌜ n ≤ length (now to) ⌝ }
+    ensures front { λ _. ⌜ take n (now (to .exit)) ≡ take n (now (from .entry)) ⌝ }
+    ensures rest { λ _. ⌜ drop n (now (to .exit)) ≡ drop n (now (to .entry)) ⌝ }
+{
+    let part = &mut to[0..n];
+    part.copy_from_slice(&from[0..n]);
 }
