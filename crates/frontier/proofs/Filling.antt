@@ -11,7 +11,7 @@ use Rattle.std.proofs.shelf.Tests.{and-left, and-parts, leb-true}
 use Rattle.questions.specs.Questions.{first-no}
 use Rattle.frontier.specs.Frontiers.{inserted, inserted-all, fits}
 use Rattle.frontier.specs.Tables.{in-use, Holds, sized, frontier-size, frontier-asks}
-use Rattle.frontier.proofs.Tables.{length-in-use, sized-yes, accepted, refused-many, times-fit, times-many}
+use Rattle.frontier.proofs.Tables.{length-in-use, sized-yes, accepted, refused-full, table-fits, table-full}
 
 and-true : (b : Bool) → b ≡ (b && true)
 and-true true = refl
@@ -63,7 +63,7 @@ module _ {X A : Type 0} (below : A → A → Bool) (value : X → A) (start all 
 
   pub goes-on : (m : ℕ) (ys : List X) → first-no asks ≡ None → Holds value m ys (inserted-all below front part) → (m ≤ frontier-size) × Filling below frontier-size start all (in-use value m ys) rest
   goes-on m ys e made =
-      let fit : fits below frontier-size front part ≡ true = accepted (length xs) n (fits below frontier-size front part) e .2 in
+      let fit : fits below frontier-size front part ≡ true = accepted frontier-size 12 (length xs) n (fits below frontier-size front part) e .2 in
       let size : length front ≤ frontier-size = omega (arith, length-in-use value n xs (omega arith)) in
       (omega (arith, made .1, fits-length below frontier-size front part size fit), record {
         made = fill .made ∙ ap (inserted-all below front) turn ∙ inserted-all-append below front part rest ∙ ap (λ es. inserted-all below es rest) (sym (made .0));
@@ -72,15 +72,15 @@ module _ {X A : Type 0} (below : A → A → Bool) (value : X → A) (start all 
 
   pub stops : (f : ℕ) → first-no asks ≡ Some f → (l len : ℕ) → len ≤ frontier-size → frontier-size ≤ l → first-no (frontier-asks l len (fits below frontier-size start all)) ≡ Some f
   stops f e l len h k =
-      let many = refused-many (length xs) n (fits below frontier-size front part) few long f e in
+      let many = refused-full frontier-size 12 (length xs) n (fits below frontier-size front part) few long f e in
       let full = fill .room ∙ ap (fits below frontier-size front) turn ∙ fits-append below frontier-size front part rest ∙ and-left (fits below frontier-size front part) (fits below frontier-size (inserted-all below front part) rest) (many .0) in
-      times-many l len (fits below frontier-size start all) h k full ∙ ap Some (sym (many .1))
+      table-full frontier-size 12 l len (fits below frontier-size start all) h k full ∙ ap Some (sym (many .1))
 
 -- nothing is left to insert
 pub filled : {X A : Type 0} (below : A → A → Bool) (value : X → A) (start all left : List A) (n : ℕ) (xs : List X) → n ≤ length xs → left ≡ [] → Filling below frontier-size start all (in-use value n xs) left → (l len : ℕ) → len ≤ frontier-size → frontier-size ≤ l → (first-no (frontier-asks l len (fits below frontier-size start all)) ≡ None) × Holds value n xs (inserted-all below start all)
 filled below value start all left n xs long none fill l len h k =
     let made = fill .made ∙ ap (inserted-all below (in-use value n xs)) none in
-    (times-fit l len (fits below frontier-size start all) h k (fill .room ∙ ap (fits below frontier-size (in-use value n xs)) none), (sym made, ap length made ∙ length-in-use value n xs long))
+    (table-fits frontier-size 12 l len (fits below frontier-size start all) h k (fill .room ∙ ap (fits below frontier-size (in-use value n xs)) none), (sym made, ap length made ∙ length-in-use value n xs long))
 
 -- a list that is inserted before another: refused with it, or gone on from
 module _ {X A : Type 0} (below : A → A → Bool) (value : X → A) (start xs ys : List A) (l : ℕ) where
@@ -89,7 +89,7 @@ module _ {X A : Type 0} (below : A → A → Bool) (value : X → A) (start xs y
 
   pub goes-second : (used n : ℕ) (table : List X) → length start ≡ used → first-no (frontier-asks l used (fits below frontier-size start xs)) ≡ None → Holds value n table (inserted-all below start xs) → first-no (frontier-asks l n (fits below frontier-size (in-use value n table) ys)) ≡ first-no (frontier-asks l used (fits below frontier-size start (xs ++ ys)))
   goes-second used n table size e made =
-      let told = accepted l used (fits below frontier-size start xs) e in
+      let told = accepted frontier-size 12 l used (fits below frontier-size start xs) e in
       let few : n ≤ frontier-size = omega (arith, made .1, told .0, fits-length below frontier-size start xs (omega (arith, told .0)) (told .2)) in
       let same : fits below frontier-size start (xs ++ ys) ≡ fits below frontier-size (in-use value n table) ys = fits-append below frontier-size start xs ys ∙ ap (λ b. b && fits below frontier-size (inserted-all below start xs) ys) (told .2) ∙ ap (λ es. fits below frontier-size es ys) (sym (made .0)) in
       ap (λ b. first-no ((b, 1) ∷ (fits below frontier-size (in-use value n table) ys, 12) ∷ [])) (sized-yes frontier-size n l few (told .1) ∙ sym (sized-yes frontier-size used l (told .0) (told .1)))
@@ -98,7 +98,7 @@ module _ {X A : Type 0} (below : A → A → Bool) (value : X → A) (start xs y
 -- a frontier made from nothing, and copied from the table in which it was made
 module _ {X A : Type 0} (below : A → A → Bool) (value : X → A) (all : List A) (n : ℕ) (xs : List X) (made : Holds value n xs (inserted-all below [] all)) where
   pub made-few : (l : ℕ) → first-no (frontier-asks l 0 (fits below frontier-size [] all)) ≡ None → n ≤ frontier-size
-  made-few l e = omega (arith, made .1, fits-length below frontier-size [] all (omega arith) (accepted l 0 (fits below frontier-size [] all) e .2))
+  made-few l e = omega (arith, made .1, fits-length below frontier-size [] all (omega arith) (accepted frontier-size 12 l 0 (fits below frontier-size [] all) e .2))
 
   pub made-copied : (ys : List X) → take n ys ≡ take n xs → Holds value n ys (inserted-all below [] all)
   made-copied ys e = (ap (map value) e ∙ made .0, made .1)

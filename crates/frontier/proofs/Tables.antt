@@ -12,7 +12,7 @@ use Rattle.std.proofs.shelf.Lists.{length-map, length-take-le, drop-drop}
 use Rattle.std.proofs.shelf.Tests.{le-leb, lt-leb, leb-true, and-from, and-left, and-right, and-parts}
 use Rattle.questions.specs.Questions.{first-no}
 use Rattle.questions.proofs.Asking.{ask-next, ask-here, asked-all}
-use Rattle.frontier.specs.Tables.{in-use, sized, frontier-size, frontier-asks}
+use Rattle.frontier.specs.Tables.{in-use, sized, table-asks}
 
 -- `&s[0..n]` is `take (n - 0) s`
 pub sub-zero : (n : ℕ) → n - 0 ≡ n
@@ -38,31 +38,31 @@ module _ (size used n : ℕ) where
   pub sized-tells : sized size used n ≡ true → (used ≤ size) × (size ≤ n)
   sized-tells e = let both = and-parts (leb used size) (leb size n) e in (leb-true used size (both .0), leb-true size n (both .1))
 
-only-many : (few : Bool) (m : ℕ) → first-no ((few, 12) ∷ []) ≡ Some m → (few ≡ false) × (m ≡ 12)
-only-many true m e = let z : _≡_ {A = ℕ} 0 1 = cc in absurd (omega arith)
-only-many false m e = (refl, cc)
+only : (few : Bool) (number m : ℕ) → first-no ((few, number) ∷ []) ≡ Some m → (few ≡ false) × (m ≡ number)
+only true number m e = let z : _≡_ {A = ℕ} 0 1 = cc in absurd (omega arith)
+only false number m e = (refl, cc)
 
--- what a call on a frontier's table answers, and what it tells
-module _ (n used : ℕ) (few : Bool) where
-  pub table-short : (frontier-size < used) ⊎ ((used ≤ frontier-size) × (n < frontier-size)) → first-no (frontier-asks n used few) ≡ Some 1
-  table-short h = ask-here (sized frontier-size used n) 1 ((few, 12) ∷ []) (sized-no frontier-size used n h)
+-- what a call on a table answers, and what it tells
+module _ (size number n used : ℕ) (few : Bool) where
+  pub table-short : (size < used) ⊎ ((used ≤ size) × (n < size)) → first-no (table-asks size number n used few) ≡ Some 1
+  table-short h = ask-here (sized size used n) 1 ((few, number) ∷ []) (sized-no size used n h)
 
-  module _ (used-few : used ≤ frontier-size) (long : frontier-size ≤ n) where
-    on : first-no (frontier-asks n used few) ≡ first-no ((few, 12) ∷ [])
-    on = ask-next (sized frontier-size used n) 1 ((few, 12) ∷ []) (sized-yes frontier-size used n used-few long)
+  module _ (within : used ≤ size) (long : size ≤ n) where
+    on : first-no (table-asks size number n used few) ≡ first-no ((few, number) ∷ [])
+    on = ask-next (sized size used n) 1 ((few, number) ∷ []) (sized-yes size used n within long)
 
-    pub times-fit : few ≡ true → first-no (frontier-asks n used few) ≡ None
-    times-fit e = on ∙ ask-next few 12 [] e
+    pub table-fits : few ≡ true → first-no (table-asks size number n used few) ≡ None
+    table-fits e = on ∙ ask-next few number [] e
 
-    pub times-many : few ≡ false → first-no (frontier-asks n used few) ≡ Some 12
-    times-many e = on ∙ ask-here few 12 [] e
+    pub table-full : few ≡ false → first-no (table-asks size number n used few) ≡ Some number
+    table-full e = on ∙ ask-here few number [] e
 
-    -- a refusal of a table that is long enough says that there are too many times
-    pub refused-many : (m : ℕ) → first-no (frontier-asks n used few) ≡ Some m → (few ≡ false) × (m ≡ 12)
-    refused-many m e = only-many few m (sym on ∙ e)
+    -- a call on a table that is long enough was refused since the table is full
+    pub refused-full : (m : ℕ) → first-no (table-asks size number n used few) ≡ Some m → (few ≡ false) × (m ≡ number)
+    refused-full m e = only few number m (sym on ∙ e)
 
-  pub accepted : first-no (frontier-asks n used few) ≡ None → (used ≤ frontier-size) × (frontier-size ≤ n) × (few ≡ true)
+  pub accepted : first-no (table-asks size number n used few) ≡ None → (used ≤ size) × (size ≤ n) × (few ≡ true)
   accepted e =
-      let first = asked-all (sized frontier-size used n) 1 ((few, 12) ∷ []) e in
-      let fits = sized-tells frontier-size used n (first .0) in
-      (fits .0, fits .1, asked-all few 12 [] (first .1) .0)
+      let first = asked-all (sized size used n) 1 ((few, number) ∷ []) e in
+      let told = sized-tells size used n (first .0) in
+      (told .0, told .1, asked-all few number [] (first .1) .0)

@@ -27,6 +27,10 @@ sized size used n = leb used size && leb size n
 abbrev pub counted : {X A : Type 0} → (X → A) → (X × ℤ) → (A × ℤ)
 counted value e = (value (e .0), e .1)
 
--- what a call on a frontier's table asks: its size (1), and that no more than 32 times stand in it after each insert (12)
+-- what a call on a table of n entries asks: that it is at least its size (1), and that what it comes to hold fits, by the number of that question
+abbrev pub table-asks : ℕ → ℕ → ℕ → ℕ → Bool → List (Bool × ℕ)
+table-asks size number n used few = (sized size used n, 1) ∷ (few, number) ∷ []
+
+-- a frontier's table: at most 32 times after each insert (12)
 abbrev pub frontier-asks : ℕ → ℕ → Bool → List (Bool × ℕ)
-frontier-asks n used few = (sized frontier-size used n, 1) ∷ (few, 12) ∷ []
+frontier-asks n used few = table-asks frontier-size 12 n used few

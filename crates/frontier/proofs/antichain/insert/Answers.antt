@@ -12,12 +12,12 @@ use Rattle.frontier.specs.Frontiers.{beyond, inserted, without}
 use Rattle.frontier.specs.Tables.{in-use, frontier-size}
 use Rattle.frontier.proofs.Antichains.{antichain-inserted}
 use Rattle.frontier.proofs.Inserting.{length-inserted, inserted-more}
-use Rattle.frontier.proofs.Tables.{drop-on, length-in-use, table-short, times-fit, times-many}
+use Rattle.frontier.proofs.Tables.{drop-on, length-in-use, table-short, table-fits, table-full}
 use Rattle.frontier.proofs.antichain.insert.Needs as need
 
 pub returns-then-len-gt-FRONTIER-SIZE : need.returns-then-len-gt-FRONTIER-SIZE
 returns-then-len-gt-FRONTIER-SIZE g c =
-    record { answer = (table-short _ _ _ (c .then-len-gt-FRONTIER-SIZE .either), refl); rest = refl; law = antichain-inserted (g .T·PartialOrder·met .order) }
+    record { answer = (table-short frontier-size 12 _ _ _ (c .then-len-gt-FRONTIER-SIZE .either), refl); rest = refl; law = antichain-inserted (g .T·PartialOrder·met .order) }
 
 pub returns-then-is-beyond : need.returns-then-is-beyond
 returns-then-is-beyond g c =
@@ -29,7 +29,7 @@ returns-then-is-beyond g c =
     let size : length front ≡ c .args .len = length-in-use (o .value) (c .args .len) (c .args .table .now) (omega arith) in
     let few : length (inserted (o .below) front t) ≤ 32 = omega (arith, ap length stands) in
     record {
-      answer = (times-fit _ _ _ (c .if-len-gt-FRONTIER-SIZE .left) (c .if-table-lt-FRONTIER-SIZE .left) (le-leb _ 32 few), (sym stands, ap length stands ∙ size));
+      answer = (table-fits frontier-size 12 _ _ _ (c .if-len-gt-FRONTIER-SIZE .left) (c .if-table-lt-FRONTIER-SIZE .left) (le-leb _ 32 few), (sym stands, ap length stands ∙ size));
       rest = refl;
       law = antichain-inserted (g .T·PartialOrder·met .order);
     }
@@ -43,7 +43,7 @@ returns-then-count-without-ge-FRONTIER-SIZE g c =
     let count : c .count-without .result ≡ length (without (o .below) t front) = search needs in
     let many : 32 < length (inserted (o .below) front t) = omega (arith, length-inserted (o .below) (o .value) front (c .args .time) behind) in
     record {
-      answer = (times-many _ _ _ (c .if-len-gt-FRONTIER-SIZE .left) (c .if-table-lt-FRONTIER-SIZE .left) (lt-leb _ 32 many), refl);
+      answer = (table-full frontier-size 12 _ _ _ (c .if-len-gt-FRONTIER-SIZE .left) (c .if-table-lt-FRONTIER-SIZE .left) (lt-leb _ 32 many), refl);
       rest = refl;
       law = antichain-inserted (g .T·PartialOrder·met .order);
     }
@@ -61,7 +61,7 @@ returns g c =
     let few : n < 32 = omega (arith, c .keep-without-n .ensures .after .1) in
     let inside : n < length table = search needs in
     record {
-      answer = (times-fit _ _ _ (c .if-len-gt-FRONTIER-SIZE .left) (c .if-table-lt-FRONTIER-SIZE .left) (le-leb _ 32 (omega (arith, grown))), inserted-more (o .below) (o .value) front (c .args .time) behind table n inside (c .keep-without-n .ensures .after));
+      answer = (table-fits frontier-size 12 _ _ _ (c .if-len-gt-FRONTIER-SIZE .left) (c .if-table-lt-FRONTIER-SIZE .left) (le-leb _ 32 (omega (arith, grown))), inserted-more (o .below) (o .value) front (c .args .time) behind table n inside (c .keep-without-n .ensures .after));
       rest = drop-set-lt 32 table n (c .args .time) few ∙ drop-on (c .args .table .now) table (c .args .len) 32 (c .if-len-gt-FRONTIER-SIZE .left) (c .keep-without-n .ensures .rest);
       law = antichain-inserted (g .T·PartialOrder·met .order);
     }

@@ -11,7 +11,7 @@ use Rattle.frontier.specs.Frontiers.{fits}
 use Rattle.frontier.proofs.Antichains.{antichain-meet}
 use Rattle.frontier.specs.Tables.{frontier-size}
 use Rattle.frontier.proofs.Filling.{made-few, made-copied}
-use Rattle.frontier.proofs.Tables.{table-short, times-fit, times-many, refused-many, accepted}
+use Rattle.frontier.proofs.Tables.{table-short, table-fits, table-full, refused-full, accepted}
 use Rattle.frontier.proofs.joins.antichain_meet.Needs as need
 
 pub returns-then-upper-lt-FRONTIER-SIZE : need.returns-then-upper-lt-FRONTIER-SIZE
@@ -23,7 +23,7 @@ returns-then-upper-lt-FRONTIER-SIZE g c =
     let n = length (c .args .upper .now) in
     let m = length (c .args .scratch .now) in
     let short : min n m < frontier-size = ⊎-elim (λ h. omega (arith, h)) (λ h. omega (arith, h .1)) (c .then-upper-lt-FRONTIER-SIZE .either) in
-    record { answer = (table-short (min n m) 0 few (inr (omega arith, short)), refl); scratch = refl; law = antichain-meet (g .T·PartialOrder·met .order) }
+    record { answer = (table-short frontier-size 12 (min n m) 0 few (inr (omega arith, short)), refl); scratch = refl; law = antichain-meet (g .T·PartialOrder·met .order) }
 
 pub returns-in-Break-n : need.returns-in-Break-n
 returns-in-Break-n g c =
@@ -36,9 +36,9 @@ returns-in-Break-n g c =
     let told = c .in-Break-n .ensures tt in
     let long : frontier-size ≤ m = omega arith in
     let both : frontier-size ≤ min n m = omega arith in
-    let many = refused-many m 0 few (omega arith) long (number-of (c .in-Break-n .field-0 .0)) (told .answer .0) in
+    let many = refused-full frontier-size 12 m 0 few (omega arith) long (number-of (c .in-Break-n .field-0 .0)) (told .answer .0) in
     let p = err-from-errBy (c .from-residual .result) (c .from-residual .ensures .1) in
-    rw (p .1, p .2) record { answer = (times-many (min n m) 0 few (omega arith) both (many .0) ∙ ap Some (sym (many .1)), refl); scratch = told .rest; law = antichain-meet (g .T·PartialOrder·met .order) }
+    rw (p .1, p .2) record { answer = (table-full frontier-size 12 (min n m) 0 few (omega arith) both (many .0) ∙ ap Some (sym (many .1)), refl); scratch = told .rest; law = antichain-meet (g .T·PartialOrder·met .order) }
 
 pub copy-entries-requires : need.copy-entries-requires
 copy-entries-requires g c κs =
@@ -60,4 +60,4 @@ returns g c =
     let told = c .in-Continue-n .ensures tt in
     let both : frontier-size ≤ min n m = omega arith in
     let made = made-copied (o .below) (o .value) (one ++ other) (c .in-Continue-n .n) (c .meet-into .last .table) (told .answer .1) (c .copy-entries .last .to) (c .copy-entries .ensures .front) in
-    record { answer = (times-fit (min n m) 0 few (omega arith) both (accepted m 0 few (told .answer .0) .2), (made, c .copy-entries .ensures .rest)); scratch = told .rest; law = antichain-meet (g .T·PartialOrder·met .order) }
+    record { answer = (table-fits frontier-size 12 (min n m) 0 few (omega arith) both (accepted frontier-size 12 m 0 few (told .answer .0) .2), (made, c .copy-entries .ensures .rest)); scratch = told .rest; law = antichain-meet (g .T·PartialOrder·met .order) }
