@@ -5,3 +5,4 @@ pub mod Joining
 pub mod Antichains
 pub mod Inserting
 pub mod Filling
+pub mod Adding

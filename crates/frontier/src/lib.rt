@@ -4,11 +4,13 @@
 // table for one has at least 32 entries; a longer one is taken, and its further entries are left
 // alone.  A refused call leaves every table as it was.
 mod antichain;
+mod counts;
 mod joins;
 mod lists;
 pub mod steps;
 
 pub use antichain::insert;
+pub use counts::update;
 pub use joins::antichain_join_into;
 pub use joins::antichain_meet;
 pub use lists::antichain_equal;
