@@ -10,3 +10,4 @@ pub mod Sender
 pub mod Posts
 pub mod Runs
 pub mod Law
+pub mod Views

@@ -33,3 +33,9 @@ module _ {D A R P : Type 0} (o : Post D A R P) where
   pub data Pump (tables : Bool) : List (Message D A R) → P → Answer (Bool × Option ℕ) → List (Message D A R) → P → Type 0 where
     refuses : {ms : List (Message D A R)} {p : P} {n : ℕ} → first-no (table-asks tables) ≡ Some n → Pump tables ms p (refused n) ms p
     pumps : {ms ns : List (Message D A R)} {p q : P} {work : Bool} {wait : Option ℕ} → first-no (table-asks tables) ≡ None → Pumped ms p work wait ns q → Pump tables ms p (accepted (work, wait)) ns q
+
+module _ {M : Type 0} where
+  -- what an offer of the message m comes to: taken exactly where the post is ready for it, and then it stands last; else a wait
+  abbrev pub Polled : Option ℕ → (M → Bool) → List M → M → List M → Type 0
+  Polled None ready before m after = (ready m ≡ true) × (after ≡ before ++ m ∷ [])
+  Polled (Some wait) ready before m after = (ready m ≡ false) × (after ≡ before)

@@ -89,7 +89,7 @@ module _ {D A R : Type 0} (k : Kinds D A R) where
   abbrev pub close-asks : Bool → List A → Sender D A R → List (Bool × ℕ)
   close-asks tables l s =
       (tables, 1) ∷ (some l && (leq (k .time .below) (s .frontier) l && not (leq (k .time .below) l (s .frontier))), 4) ∷
-      (small (k .time) (stating (reduced l) s .counts), 5) ∷ (fits (k .time .below) frontier-size [] l, 12) ∷ (ltb (length (s .queued-statements)) queue-messages, 13) ∷ []
+      (small (stating (reduced l) s .counts), 5) ∷ (fits (k .time .below) frontier-size [] l, 12) ∷ (ltb (length (s .queued-statements)) queue-messages, 13) ∷ []
 
   -- a close moves the sender on to the list, reduced to a frontier
   abbrev pub close : Bool → List A → Sender D A R → Answer (Unit {0}) × Sender D A R
@@ -97,7 +97,7 @@ module _ {D A R : Type 0} (k : Kinds D A R) where
 
   -- what a finish asks, in order
   abbrev pub finish-asks : Bool → Sender D A R → List (Bool × ℕ)
-  finish-asks tables s = (tables, 1) ∷ (small (k .time) (stating [] s .counts), 5) ∷ (ltb (length (s .queued-statements)) queue-messages, 13) ∷ []
+  finish-asks tables s = (tables, 1) ∷ (small (stating [] s .counts), 5) ∷ (ltb (length (s .queued-statements)) queue-messages, 13) ∷ []
 
   -- a finish moves the sender on to the empty frontier
   abbrev pub finish : Bool → Sender D A R → Answer (Unit {0}) × Sender D A R

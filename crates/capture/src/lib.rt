@@ -1,3 +1,8 @@
-pub fn nothing() -> u8 {
-    0
-}
+mod law;
+mod message;
+mod writer;
+
+pub use law::law_of_runs;
+pub use message::Message;
+pub use message::Progress;
+pub use writer::Writer;

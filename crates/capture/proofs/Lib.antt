@@ -1,0 +1,5 @@
+pub mod Counts
+pub mod Tallies
+pub mod Lists
+pub mod Laws
+pub mod Changes

@@ -1,0 +1,14 @@
+// The law that every run of one sender and any readers keeps.
+ghost use Rattle.capture.specs.Kinds.{kinds};
+ghost use Rattle.capture.specs.Posts.{post};
+ghost use Rattle.capture.specs.Law.{Law};
+use crate::Writer;
+use lattice::Lattice;
+use lattice::PartialOrder;
+use lattice::Same;
+use lattice::Timestamp;
+
+pub fn law_of_runs<D: Same, T: Timestamp, R: Same, P: Writer<D, T, R>, Q: Writer<D, T, R>>()
+    ensures { λ _. ⌜ Law (kinds (D·Same .alike) (T·PartialOrder .below) (T·Lattice .joined) (T·Timestamp .start) (R·Same .alike)) (post (P·Writer .taken) (P·Writer .ready) (P·Writer .committed)) (post (Q·Writer .taken) (Q·Writer .ready) (Q·Writer .committed)) ⌝ }
+{
+}
