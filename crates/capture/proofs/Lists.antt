@@ -1,9 +1,14 @@
 -- Where a value stands in a list, and what changes when one place of a list is given another value.
-use mathlib.Core.Path.{_≡_, ap, refl, subst}
+use mathlib.Core.Path.{_≡_, ap, refl, subst, sym}
 use mathlib.Core.Logic.{_⊎_, inl, inr, ⊎-elim}
+use mathlib.Core.Bool.{Bool}
 use mathlib.Core.List.{List, [], _++_, _∷_, map}
-use Prim.Native.Nat.{suc, ℕ}
+use Prim.Native.Nat.{_≤_, suc, ℕ}
+use lib.Dec.{T}
+use lib.ListN.{length}
 use native.Mathlib.Omega.{arith}
+use Rattle.std.specs.shelf.Lists.{kept-by}
+use Rattle.lattice.proofs.Tests.{by-cases, cond-at-false, cond-at-true, cond-both, not-both}
 use Rattle.capture.specs.Runs.{At, In, Turned}
 
 pub in-left : {X : Type 0} {x : X} {xs : List X} (ys : List X) → In x xs → In x (xs ++ ys)
@@ -58,3 +63,25 @@ turned-cases k z (Turned.there τ) (At.there {i = j} a) =
 pub at-same : {X : Type 0} {xs : List X} {k : ℕ} {x : X} (y : X) → At xs k x → At xs k y → x ≡ y
 at-same y At.here At.here = refl
 at-same y (At.there a) (At.there b) = at-same y a b
+
+pub in-kept : {X : Type 0} (p : X → Bool) (xs : List X) (x : X) → In x xs → T (p x) → In x (kept-by p xs)
+in-kept p [] x h q = absurd (in-none h)
+in-kept p (y ∷ xs) x h q =
+    ⊎-elim
+    (λ e. cond-both (λ l. In x l) (p y) (y ∷ kept-by p xs) (kept-by p xs) (λ _. subst (λ v. In x (v ∷ kept-by p xs)) e In.here) (λ n. absurd (not-both (p y) n (subst (λ v. T (p v)) e q))))
+    (λ i. let ih = in-kept p xs x i q in cond-both (λ l. In x l) (p y) (y ∷ kept-by p xs) (kept-by p xs) (λ _. In.there ih) (λ _. ih))
+    (in-more h)
+
+pub kept-in : {X : Type 0} (p : X → Bool) (xs : List X) (x : X) → In x (kept-by p xs) → In x xs × T (p x)
+kept-in p [] x h = absurd (in-none h)
+kept-in p (y ∷ xs) x h =
+    by-cases (p y)
+    (λ q. ⊎-elim
+    (λ e. (subst (λ v. In x (v ∷ xs)) e In.here, subst (λ v. T (p v)) (sym e) q))
+    (λ i. let ih = kept-in p xs x i in (In.there (ih .0), ih .1))
+    (in-more (cond-at-true (λ l. In x l) (p y) (y ∷ kept-by p xs) (kept-by p xs) q h)))
+    (λ n. let ih = kept-in p xs x (cond-at-false (λ l. In x l) (p y) (y ∷ kept-by p xs) (kept-by p xs) n h) in (In.there (ih .0), ih .1))
+
+pub kept-length : {X : Type 0} (p : X → Bool) (xs : List X) → length (kept-by p xs) ≤ length xs
+kept-length p [] = omega arith
+kept-length p (y ∷ xs) = let ih = kept-length p xs in cond-both (λ l. length l ≤ suc (length xs)) (p y) (y ∷ kept-by p xs) (kept-by p xs) (λ _. omega arith) (λ _. omega arith)
