@@ -6,3 +6,7 @@ pub mod Changes
 pub mod Chains
 pub mod Waiting
 pub mod Places
+pub mod Edges
+pub mod Received
+pub mod Answering
+pub mod HeldKeeps
