@@ -10,3 +10,4 @@ pub mod Edges
 pub mod Received
 pub mod Answering
 pub mod HeldKeeps
+pub mod PromptKeeps
