@@ -11,3 +11,5 @@ pub mod Received
 pub mod Answering
 pub mod HeldKeeps
 pub mod PromptKeeps
+pub mod ReadersKeep
+pub mod Standings
