@@ -13,3 +13,4 @@ pub mod HeldKeeps
 pub mod PromptKeeps
 pub mod ReadersKeep
 pub mod Standings
+pub mod Invariant
