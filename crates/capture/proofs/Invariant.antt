@@ -142,7 +142,7 @@ module _ {D A R P Q : Type 0} {K : Kinds D A R} (ok : Lawful K) (p : Post D A R 
   valid-more rec rec′ ss ss′ more further (statement s) v = further s v
 
   -- the sender after an accepted record
-  abbrev after-record : List (Change D A R) → Sender D A R → Sender D A R
+  abbrev pub after-record : List (Change D A R) → Sender D A R → Sender D A R
   after-record cs s = record { frontier = s .frontier; counts = counts-with K cs s; queued-changes = s .queued-changes ++ changes cs ∷ []; queued-statements = s .queued-statements }
 
   pub keeps-record : (tables : Bool) (rec : List (Change D A R)) (acc : ℕ → List (Message D A R)) (out : ℕ → List (Change D A R)) (set : ℕ → Bool) (w : World D A R P Q) (cs : List (Change D A R)) → All-yes (record-asks K tables cs (w .sender)) → Invariant K p q rec acc out set w → Invariant K p q (rec ++ cs) acc out set (with-sender w (after-record cs (w .sender)))

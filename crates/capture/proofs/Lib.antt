@@ -14,3 +14,4 @@ pub mod PromptKeeps
 pub mod ReadersKeep
 pub mod Standings
 pub mod Invariant
+pub mod LawHolds
