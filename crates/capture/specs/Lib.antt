@@ -11,3 +11,4 @@ pub mod Posts
 pub mod Runs
 pub mod Law
 pub mod Views
+pub mod Deliveries
