@@ -9,11 +9,12 @@ use borrow.Author.Differences.{ints}
 use lib.Dec.{T}
 use lib.IntN.{+ℤ-assoc, +ℤ-idl, +ℤ-idr, _+ℤ_, natAbs, negsuc, pos, ℤ}
 use native.Mathlib.Omega.{arith}
-use Rattle.lattice.proofs.Tests.{by-cases, cond-both, cond-false, cond-true, iff-≡, not-both, not-from, not-or-left, not-or-right, or-cases, or-left, or-right}
+use Rattle.lattice.proofs.Tests.{by-cases, cond-both, cond-false, cond-true, not-both, not-from, not-or-left, not-or-right, or-cases, or-left, or-right}
 use Rattle.lattice.specs.Orders.{Order, at-once}
 use Rattle.frontier.proofs.Antichains.{is-same, same-is}
 use Rattle.frontier.specs.Counts.{added, added-all, entry, is-zero, positive, positives, stopped}
 use Rattle.frontier.specs.Frontiers.{beyond}
+use Rattle.capture.specs.Deliveries.{s}
 use Rattle.capture.specs.Sender.{count-at}
 
 pub stopped-abs : (z : ℤ) → natAbs z ≤ 9223372036854775807 → stopped z ≡ z
@@ -58,9 +59,6 @@ module _ {A : Type 0} {below : A → A → Bool} (order : Order below) where
   pub same-sym : (x y : A) → T (at-once below x y) → T (at-once below y x)
   same-sym x y h = subst (λ v. T (at-once below v x)) (same-is order x y h) (is-same order x)
 
-  pub same-comm : (x y : A) → at-once below x y ≡ at-once below y x
-  same-comm x y = iff-≡ (at-once below x y) (at-once below y x) (same-sym x y) (same-sym y x)
-
   pub at-absent : (es : List (A × ℤ)) (x : A) → T (not (listed below es x)) → count-at below es x ≡ pos 0
   at-absent [] x h = refl
   at-absent (e ∷ es) x h =
@@ -80,9 +78,6 @@ module _ {A : Type 0} {below : A → A → Bool} (order : Order below) where
       ⊎-elim (λ p. inl (or-left (at-once below (e .0) y) (listed below es y) p))
       (λ p. ⊎-elim (λ q. inl (or-right (at-once below (e .0) y) (listed below es y) q)) inr (listed-added es x z y p))
       (or-cases (at-once below (e .0) y) (listed below (added below es x z) y) h))
-
-  pub clean-none : Clean below []
-  clean-none = tt
 
   pub clean-added : (es : List (A × ℤ)) (x : A) (z : ℤ) → Clean below es → Clean below (added below es x z)
   clean-added [] x z c = cond-both (λ l. Clean below l) (is-zero z) [] ((x, z) ∷ []) (λ _. tt) (λ q. ((tt, q), tt))
@@ -165,27 +160,6 @@ module _ {A : Type 0} {below : A → A → Bool} (order : Order below) where
             omega arith),
       )
 
-  pub abs-sum-at : (cs : List (A × ℤ)) (y : A) → natAbs (sum-at below cs y) ≤ size-at below cs y
-  abs-sum-at [] y = omega arith
-  abs-sum-at (c ∷ cs) y =
-      let ih = abs-sum-at cs y in
-      let l = abs-sum (cond (at-once below (c .0) y) (c .1) (pos 0)) (sum-at below cs y) in
-      let k = abs-cond (at-once below (c .0) y) (c .1) in
-      omega arith
-
-  pub sum-at-append : (cs ds : List (A × ℤ)) (y : A) → sum-at below (cs ++ ds) y ≡ sum-at below cs y +ℤ sum-at below ds y
-  sum-at-append [] ds y = sym (+ℤ-idl (sum-at below ds y))
-  sum-at-append (c ∷ cs) ds y =
-      ap (λ v. cond (at-once below (c .0) y) (c .1) (pos 0) +ℤ v) (sum-at-append cs ds y) ∙ sym (+ℤ-assoc (cond (at-once below (c .0) y) (c .1) (pos 0)) (sum-at below cs y) (sum-at below ds y))
-
-  pub size-at-append : (cs ds : List (A × ℤ)) (y : A) → size-at below (cs ++ ds) y ≡ size-at below cs y + size-at below ds y
-  size-at-append [] ds y = omega arith
-  size-at-append (c ∷ cs) ds y = let ih = size-at-append cs ds y in omega arith
-
-  pub added-all-append : (es cs ds : List (A × ℤ)) → added-all below es (cs ++ ds) ≡ added-all below (added-all below es cs) ds
-  added-all-append es [] ds = refl
-  added-all-append es (c ∷ cs) ds = added-all-append (added below es (c .0) (c .1)) cs ds
-
   -- at a clean list the sum of the additions is the entry
   pub sum-at-clean : (cs : List (A × ℤ)) (y : A) → Clean below cs → sum-at below cs y ≡ count-at below cs y
   sum-at-clean [] y c = refl
@@ -212,8 +186,6 @@ module _ {A : Type 0} {below : A → A → Bool} (order : Order below) where
       let a = cond-false (at-once below (e .0) y) (natAbs (e .1)) 0 q in
       let b = ap natAbs (cond-false (at-once below (e .0) y) (e .1) (count-at below es y) q) in
       omega arith)
-
-  -- ---- the positives
 
   pub at-head : (e : A × ℤ) (es : List (A × ℤ)) → count-at below (e ∷ es) (e .0) ≡ e .1
   at-head e es = cond-true (at-once below (e .0) (e .0)) (e .1) (count-at below es (e .0)) (is-same order (e .0))

@@ -18,6 +18,7 @@ use Rattle.frontier.proofs.Beyond.{leq-beyond}
 use Rattle.frontier.specs.Counts.{added-all}
 use Rattle.frontier.specs.Frontiers.{Antichain, beyond, leq}
 use Rattle.capture.specs.Answers.{Answer}
+use Rattle.capture.specs.Deliveries.{s}
 use Rattle.capture.specs.Kinds.{Kinds, Time}
 use Rattle.capture.specs.Law.{all-stated}
 use Rattle.capture.specs.Messages.{Change, Message, Statement, changes, has, statement}
@@ -108,9 +109,6 @@ module _ {D A R P Q : Type 0} {K : Kinds D A R} (ok : Lawful K) (p : Post D A R 
   not-empty-leq [] h = absurd h
   not-empty-leq (x ∷ f) h = tt
 
-  pub tells : (rec : List (Change D A R)) (acc : ℕ → List (Message D A R)) (out : ℕ → List (Change D A R)) (set : ℕ → Bool) (w : World D A R P Q) → Once K rec → (s : Invariant K p q rec acc out set w) → Told K rec (s .ss)
-  tells rec acc out set w once s = record { once = once; small = s .small; says = s .says }
-
   pub keeps-same : (rec rec′ : List (Change D A R)) (acc acc′ : ℕ → List (Message D A R)) (out out′ : ℕ → List (Change D A R)) (set set′ : ℕ → Bool) (w : World D A R P Q) → rec ≡ rec′ → ((k : ℕ) → acc k ≡ acc′ k) → ((k : ℕ) → out k ≡ out′ k) → ((k : ℕ) → set k ≡ set′ k) → Invariant K p q rec acc out set w → Invariant K p q rec′ acc′ out′ set′ w
   keeps-same rec rec′ acc acc′ out out′ set set′ w er ea eo es s =
       subst (λ l. Invariant K p q l acc′ out′ set′ w) er (record {
@@ -127,16 +125,6 @@ module _ {D A R P Q : Type 0} {K : Kinds D A R} (ok : Lawful K) (p : Post D A R 
         fine = λ k x i. subst (λ b. Fine K rec (s .ss) (w .sender .frontier) (acc′ k) (out′ k) b x) (es k) (subst (λ l. Fine K rec (s .ss) (w .sender .frontier) (acc′ k) l (set k) x) (eo k) (subst (λ l. Fine K rec (s .ss) (w .sender .frontier) l (out k) (set k) x) (ea k) (s .fine k x i)));
       })
 
-  -- what the posts took is the sender's
-  pub sent-valid : (rec : List (Change D A R)) (acc : ℕ → List (Message D A R)) (out : ℕ → List (Change D A R)) (set : ℕ → Bool) (w : World D A R P Q) (s : Invariant K p q rec acc out set w) (m : Message D A R) → In m (sent K p q w) → Valid K rec (s .ss) m
-  sent-valid rec acc out set w s m i =
-      ⊎-elim
-      (λ a. s .valid m (in-left (w .sender .queued-changes) a))
-      (λ b.
-      let j = map-in statement m (s .ss) (in-along (s .stated) (in-left (w .sender .queued-statements) b)) in
-      subst (λ v. Valid K rec (s .ss) v) (sym (j .1)) (j .2))
-      (in-cases m (p .taken (w .changes-post)) (q .taken (w .statements-post)) i)
-
   valid-more : (rec rec′ : List (Change D A R)) (ss ss′ : List (Statement A)) → ((c : Change D A R) → T (has K rec c) → T (has K rec′ c)) → ((u : Statement A) → In u ss → In u ss′) → (m : Message D A R) → Valid K rec ss m → Valid K rec′ ss′ m
   valid-more rec rec′ ss ss′ more further (changes cs) v = λ c h. more c (v c h)
   valid-more rec rec′ ss ss′ more further (statement s) v = further s v
@@ -145,64 +133,78 @@ module _ {D A R P Q : Type 0} {K : Kinds D A R} (ok : Lawful K) (p : Post D A R 
   abbrev pub after-record : List (Change D A R) → Sender D A R → Sender D A R
   after-record cs s = record { frontier = s .frontier; counts = counts-with K cs s; queued-changes = s .queued-changes ++ changes cs ∷ []; queued-statements = s .queued-statements }
 
-  pub keeps-record : (tables : Bool) (rec : List (Change D A R)) (acc : ℕ → List (Message D A R)) (out : ℕ → List (Change D A R)) (set : ℕ → Bool) (w : World D A R P Q) (cs : List (Change D A R)) → All-yes (record-asks K tables cs (w .sender)) → Invariant K p q rec acc out set w → Invariant K p q (rec ++ cs) acc out set (with-sender w (after-record cs (w .sender)))
-  keeps-record tables rec acc out set w cs asked s =
-      let snd = w .sender in
-      let f = snd .frontier in
-      let short : length cs ≤ 64 = leb→le (length cs) 64 (asked .1 .0) in
-      let ahead : T (all-pass (λ c. beyond below f (c .time)) cs) = asked .1 .1 .0 in
-      let few : T (all-pass (λ c. leb (told (count-at below (counts-with K cs snd) (c .time))) 1000000) cs) = asked .1 .1 .1 .0 in
-      let many : (x : A) → many-at below x (rec ++ cs) ≡ many-at below x rec + many-at below x cs = λ x. many-at-append ok x rec cs in
-      let none : (x : A) → T (not (beyond below f x)) → many-at below x cs ≡ 0 = λ x h. ⊎-elim (λ z. z) (λ b. absurd (not-both (beyond below f x) h b)) (pass-at ok (λ y. beyond below f y) cs x ahead) in
-      let same : (x : A) → T (not (beyond below f x)) → many-at below x (rec ++ cs) ≡ many-at below x rec = λ x h. let a = many x in let b = none x h in omega arith in
-      let more : (c : Change D A R) → T (has K rec c) → T (has K (rec ++ cs) c) = λ c h. has-append-left ok rec cs c h in
-      let old : (c : Change D A R) → T (has K (rec ++ cs) c) → T (has K rec c) ⊎ T (beyond below f (c .time)) = λ c h. ⊎-elim (λ a. inl a) (λ b. inr (pass-has ok (λ u. beyond below f (u .time)) cs c ahead b)) (has-append-cases ok rec cs c h) in
-      let bound : (y : A) → natAbs (count-at below (snd .counts) y) + size-at below (raised cs) y ≤ 9223372036854775807 = λ y. let l = many-length ok y cs in raised-bound (beyond below f y) (count-at below (snd .counts) y) (many-at below y rec) (many-at below y cs) (size-at below (raised cs) y) (s .counted y) (s .small y) (omega arith) (size-at-raised ok cs y) in
-      let counts : (x : A) → count-at below (added-all below (snd .counts) (raised cs)) x ≡ pos (cond (beyond below f x) (many-at below x (rec ++ cs)) 0) =
-      λ x. raised-count (beyond below f x) (count-at below (snd .counts) x) (count-at below (added-all below (snd .counts) (raised cs)) x) (sum-at below (raised cs) x) (many-at below x rec) (many-at below x cs) (many-at below x (rec ++ cs)) (s .counted x) (at-more order (snd .counts) (raised cs) (s .clean) bound x) (sum-at-raised ok cs x) (many x) (none x) in
-      record {
-        ss = s .ss;
-        stated = s .stated;
-        chain = s .chain;
-        apart = s .apart;
-        stands = s .stands;
-        clean = clean-added-all order (snd .counts) (raised cs) (s .clean);
-        counted = counts;
-        small = λ x. by-cases (beyond below f x)
-            (λ h. ⊎-elim
-            (λ z. let a = many x in let b = s .small x in omega arith)
-            (λ b.
-            let is : told (count-at below (counts-with K cs snd) x) ≡ many-at below x (rec ++ cs) = ap told (counts x ∙ ap pos (cond-true (beyond below f x) (many-at below x (rec ++ cs)) 0 h)) in
-            let most = leb→le (told (count-at below (counts-with K cs snd) x)) 1000000 b in
-            omega arith)
-            (pass-at ok (λ y. leb (told (count-at below (counts-with K cs snd) y)) 1000000) cs x few))
-            (λ h. let a = same x h in let b = s .small x in omega arith);
-        says = λ u i x. said-again (beyond below (u .lower) x) (beyond below (u .upper) x) (many-at below x rec) (many-at below x (rec ++ cs)) (tally below (u .counts) x) (s .says u i x) (λ h. same x (not-from (beyond below f x) (λ b. not-both (beyond below (u .upper) x) h (leq-beyond order (u .upper) f x (chain-link order (t .start ∷ []) (s .ss) f u (s .chain) i .to) b))));
-        valid = λ m i. ⊎-elim (λ a. valid-more rec (rec ++ cs) (s .ss) (s .ss) more (λ u k. k) m (s .valid m a)) (λ b. subst (λ v. Valid K (rec ++ cs) (s .ss) v) (sym (in-one b)) (λ c h. has-append-right ok rec cs c h))
-            (in-cases m (p .taken (w .changes-post) ++ snd .queued-changes) (changes cs ∷ []) (in-along (sym (append-assoc (p .taken (w .changes-post)) (snd .queued-changes) (changes cs ∷ []))) i));
-        fine = λ k x i. fine-recorded ok rec (rec ++ cs) (s .ss) f more old same (acc k) (out k) (set k) x (s .fine k x i);
-      }
+  module _ (rec : List (Change D A R)) (acc : ℕ → List (Message D A R)) (out : ℕ → List (Change D A R)) (set : ℕ → Bool) (w : World D A R P Q) where
+    pub tells : Once K rec → (s : Invariant K p q rec acc out set w) → Told K rec (s .ss)
+    tells once s = record { once = once; small = s .small; says = s .says }
 
-  pub keeps-move : (rec : List (Change D A R)) (acc : ℕ → List (Message D A R)) (out : ℕ → List (Change D A R)) (set : ℕ → Bool) (w : World D A R P Q) (u : List A) (done : Bool) → T (leq below (w .sender .frontier) u) → T (not (leq below u (w .sender .frontier))) → Antichain below u → (done ≡ false → T (some u)) → Invariant K p q rec acc out set w →
-      Invariant K p q rec acc out set (record { sender = moved K u (w .sender); done = done; changes-post = w .changes-post; statements-post = w .statements-post; readers = w .readers })
-  keeps-move rec acc out set w u done on strict apart stands s =
-      let snd = w .sender in
-      let f = snd .frontier in
-      let st : Statement A = record { lower = f; upper = u; counts = announced below u (snd .counts) } in
-      let new : In st (s .ss) → ⊥ = λ i. not-both (leq below u f) strict (chain-link order (t .start ∷ []) (s .ss) f st (s .chain) i .to) in
-      record {
-        ss = s .ss ++ st ∷ [];
-        stated = sym (append-assoc (q .taken (w .statements-post)) (snd .queued-statements) (statement st ∷ [])) ∙ ap (λ l. l ++ statement st ∷ []) (s .stated) ∙ sym (map-push statement (s .ss) st);
-        chain = chain-append order (t .start ∷ []) (s .ss) (st ∷ []) f u (s .chain) (chain-one order st on strict);
-        apart = apart;
-        stands = stands;
-        clean = clean-retained order u (snd .counts) (s .clean);
-        counted = λ x. kept-count (beyond below u x) (beyond below f x) (count-at below (snd .counts) x) (count-at below (retained below u (snd .counts)) x) (many-at below x rec) (λ h. leq-beyond order f u x on h) (s .counted x) (at-retained order u (snd .counts) x);
-        small = s .small;
-        says = λ v i x. ⊎-elim (λ a. s .says v a x)
-            (λ b. subst (λ y. tally below (y .counts) x ≡ cond (beyond below (y .lower) x) (cond (beyond below (y .upper) x) 0 (many-at below x rec)) 0) (sym (in-one b))
-            (told-count (beyond below u x) (beyond below f x) (many-at below x rec) (tally below (announced below u (snd .counts)) x) (tally-announced order u (snd .counts) x (cond (beyond below f x) (many-at below x rec) 0) (s .clean) (s .counted x))))
-            (in-cases v (s .ss) (st ∷ []) i);
-        valid = λ m i. valid-more rec rec (s .ss) (s .ss ++ st ∷ []) (λ c h. h) (λ v h. in-left (st ∷ []) h) m (s .valid m i);
-        fine = λ k x i. fine-moved ok rec (s .ss) st on strict new (acc k) (out k) (set k) x (s .fine k x i);
-      }
+    -- what the posts took is the sender's
+    pub sent-valid : (s : Invariant K p q rec acc out set w) (m : Message D A R) → In m (sent K p q w) → Valid K rec (s .ss) m
+    sent-valid s m i =
+        ⊎-elim
+        (λ a. s .valid m (in-left (w .sender .queued-changes) a))
+        (λ b.
+        let j = map-in statement m (s .ss) (in-along (s .stated) (in-left (w .sender .queued-statements) b)) in
+        subst (λ v. Valid K rec (s .ss) v) (sym (j .1)) (j .2))
+        (in-cases m (p .taken (w .changes-post)) (q .taken (w .statements-post)) i)
+
+    pub keeps-record : (tables : Bool) (cs : List (Change D A R)) → All-yes (record-asks K tables cs (w .sender)) → Invariant K p q rec acc out set w → Invariant K p q (rec ++ cs) acc out set (with-sender w (after-record cs (w .sender)))
+    keeps-record tables cs asked s =
+        let snd = w .sender in
+        let f = snd .frontier in
+        let short : length cs ≤ 64 = leb→le (length cs) 64 (asked .1 .0) in
+        let ahead : T (all-pass (λ c. beyond below f (c .time)) cs) = asked .1 .1 .0 in
+        let few : T (all-pass (λ c. leb (told (count-at below (counts-with K cs snd) (c .time))) 1000000) cs) = asked .1 .1 .1 .0 in
+        let many : (x : A) → many-at below x (rec ++ cs) ≡ many-at below x rec + many-at below x cs = λ x. many-at-append ok x rec cs in
+        let none : (x : A) → T (not (beyond below f x)) → many-at below x cs ≡ 0 = λ x h. ⊎-elim (λ z. z) (λ b. absurd (not-both (beyond below f x) h b)) (pass-at ok (λ y. beyond below f y) cs x ahead) in
+        let same : (x : A) → T (not (beyond below f x)) → many-at below x (rec ++ cs) ≡ many-at below x rec = λ x h. let a = many x in let b = none x h in omega arith in
+        let more : (c : Change D A R) → T (has K rec c) → T (has K (rec ++ cs) c) = λ c h. has-append-left ok rec cs c h in
+        let old : (c : Change D A R) → T (has K (rec ++ cs) c) → T (has K rec c) ⊎ T (beyond below f (c .time)) = λ c h. ⊎-elim (λ a. inl a) (λ b. inr (pass-has ok (λ u. beyond below f (u .time)) cs c ahead b)) (has-append-cases ok rec cs c h) in
+        let bound : (y : A) → natAbs (count-at below (snd .counts) y) + size-at below (raised cs) y ≤ 9223372036854775807 = λ y. let l = many-length ok y cs in raised-bound (beyond below f y) (count-at below (snd .counts) y) (many-at below y rec) (many-at below y cs) (size-at below (raised cs) y) (s .counted y) (s .small y) (omega arith) (size-at-raised ok cs y) in
+        let counts : (x : A) → count-at below (added-all below (snd .counts) (raised cs)) x ≡ pos (cond (beyond below f x) (many-at below x (rec ++ cs)) 0) =
+        λ x. raised-count (beyond below f x) (count-at below (snd .counts) x) (count-at below (added-all below (snd .counts) (raised cs)) x) (sum-at below (raised cs) x) (many-at below x rec) (many-at below x cs) (many-at below x (rec ++ cs)) (s .counted x) (at-more order (snd .counts) (raised cs) (s .clean) bound x) (sum-at-raised ok cs x) (many x) (none x) in
+        record {
+          ss = s .ss;
+          stated = s .stated;
+          chain = s .chain;
+          apart = s .apart;
+          stands = s .stands;
+          clean = clean-added-all order (snd .counts) (raised cs) (s .clean);
+          counted = counts;
+          small = λ x. by-cases (beyond below f x)
+              (λ h. ⊎-elim
+              (λ z. let a = many x in let b = s .small x in omega arith)
+              (λ b.
+              let is : told (count-at below (counts-with K cs snd) x) ≡ many-at below x (rec ++ cs) = ap told (counts x ∙ ap pos (cond-true (beyond below f x) (many-at below x (rec ++ cs)) 0 h)) in
+              let most = leb→le (told (count-at below (counts-with K cs snd) x)) 1000000 b in
+              omega arith)
+              (pass-at ok (λ y. leb (told (count-at below (counts-with K cs snd) y)) 1000000) cs x few))
+              (λ h. let a = same x h in let b = s .small x in omega arith);
+          says = λ u i x. said-again (beyond below (u .lower) x) (beyond below (u .upper) x) (many-at below x rec) (many-at below x (rec ++ cs)) (tally below (u .counts) x) (s .says u i x) (λ h. same x (not-from (beyond below f x) (λ b. not-both (beyond below (u .upper) x) h (leq-beyond order (u .upper) f x (chain-link order (t .start ∷ []) (s .ss) f u (s .chain) i .to) b))));
+          valid = λ m i. ⊎-elim (λ a. valid-more rec (rec ++ cs) (s .ss) (s .ss) more (λ u k. k) m (s .valid m a)) (λ b. subst (λ v. Valid K (rec ++ cs) (s .ss) v) (sym (in-one b)) (λ c h. has-append-right ok rec cs c h))
+              (in-cases m (p .taken (w .changes-post) ++ snd .queued-changes) (changes cs ∷ []) (in-along (sym (append-assoc (p .taken (w .changes-post)) (snd .queued-changes) (changes cs ∷ []))) i));
+          fine = λ k x i. fine-recorded ok rec (rec ++ cs) (s .ss) f more old same (acc k) (out k) (set k) x (s .fine k x i);
+        }
+
+    pub keeps-move : (u : List A) (done : Bool) → T (leq below (w .sender .frontier) u) → T (not (leq below u (w .sender .frontier))) → Antichain below u → (done ≡ false → T (some u)) → Invariant K p q rec acc out set w →
+        Invariant K p q rec acc out set (record { sender = moved K u (w .sender); done = done; changes-post = w .changes-post; statements-post = w .statements-post; readers = w .readers })
+    keeps-move u done on strict apart stands s =
+        let snd = w .sender in
+        let f = snd .frontier in
+        let st : Statement A = record { lower = f; upper = u; counts = announced below u (snd .counts) } in
+        let new : In st (s .ss) → ⊥ = λ i. not-both (leq below u f) strict (chain-link order (t .start ∷ []) (s .ss) f st (s .chain) i .to) in
+        record {
+          ss = s .ss ++ st ∷ [];
+          stated = sym (append-assoc (q .taken (w .statements-post)) (snd .queued-statements) (statement st ∷ [])) ∙ ap (λ l. l ++ statement st ∷ []) (s .stated) ∙ sym (map-push statement (s .ss) st);
+          chain = chain-append order (t .start ∷ []) (s .ss) (st ∷ []) f u (s .chain) (chain-one order st on strict);
+          apart = apart;
+          stands = stands;
+          clean = clean-retained order u (snd .counts) (s .clean);
+          counted = λ x. kept-count (beyond below u x) (beyond below f x) (count-at below (snd .counts) x) (count-at below (retained below u (snd .counts)) x) (many-at below x rec) (λ h. leq-beyond order f u x on h) (s .counted x) (at-retained order u (snd .counts) x);
+          small = s .small;
+          says = λ v i x. ⊎-elim (λ a. s .says v a x)
+              (λ b. subst (λ y. tally below (y .counts) x ≡ cond (beyond below (y .lower) x) (cond (beyond below (y .upper) x) 0 (many-at below x rec)) 0) (sym (in-one b))
+              (told-count (beyond below u x) (beyond below f x) (many-at below x rec) (tally below (announced below u (snd .counts)) x) (tally-announced order u (snd .counts) x (cond (beyond below f x) (many-at below x rec) 0) (s .clean) (s .counted x))))
+              (in-cases v (s .ss) (st ∷ []) i);
+          valid = λ m i. valid-more rec rec (s .ss) (s .ss ++ st ∷ []) (λ c h. h) (λ v h. in-left (st ∷ []) h) m (s .valid m i);
+          fine = λ k x i. fine-moved ok rec (s .ss) st on strict new (acc k) (out k) (set k) x (s .fine k x i);
+        }

@@ -14,6 +14,7 @@ use Rattle.frontier.proofs.Antichains.{antichain-inserted-all, antichain-none, 
 use Rattle.frontier.proofs.Beyond.{below-refl, beyond-inserted-all, leq-beyond, leq-from, leq-refl}
 use Rattle.frontier.specs.Frontiers.{Antichain, beyond, leq}
 use Rattle.capture.specs.Answers.{brings, is-accepted, refused}
+use Rattle.capture.specs.Deliveries.{one, s}
 use Rattle.capture.specs.Held.{Held, feed}
 use Rattle.capture.specs.Kinds.{Kinds, Time}
 use Rattle.capture.specs.Law.{Given, Law, Promises, all-accepted, all-recorded, counts-in, gifts-of, given-out, interval-changes, is-settled, messages-of, records-of}
@@ -113,7 +114,7 @@ module _ {D A R P Q : Type 0} {K : Kinds D A R} (ok : Lawful K) (p : Post D A R 
       answer-cases (λ a. Kept (recorded cs (a .0) ∷ ks) (with-sender w (a .1))) (record-asks K tables cs (w .sender)) (w .sender) (tt, after-record ok p q cs (w .sender))
       (λ n. silent ks w s)
       (λ yes. quiet ks (all-recorded ks ++ cs) (with-sender w (after-record ok p q cs (w .sender)))
-      (keeps-record ok p q tables (all-recorded ks) (λ j. all-accepted j ks) (λ j. given-out j ks) (λ j. is-settled j ks) w cs yes s))
+      (keeps-record ok p q (all-recorded ks) (λ j. all-accepted j ks) (λ j. given-out j ks) (λ j. is-settled j ks) w tables cs yes s))
 
   moves : (ks : List (Call D A R)) (w : World D A R P Q) (u : List A) (done : Bool) → T (leq below (w .sender .frontier) u) → T (not (leq below u (w .sender .frontier))) → Antichain below u → (done ≡ false → T (some u)) → Kept ks w →
       Invariant K p q (all-recorded ks ++ []) (λ j. all-accepted j ks ++ []) (λ j. given-out j ks ++ []) (λ j. is-settled j ks) (record { sender = moved K u (w .sender); done = done; changes-post = w .changes-post; statements-post = w .statements-post; readers = w .readers })
@@ -295,7 +296,7 @@ module _ {D A R P Q : Type 0} {K : Kinds D A R} (ok : Lawful K) (p : Post D A R 
               λ e.
                   let l = level-to ok rec (s .ss) top (all-accepted j ks) (stands-at x) st e in
                   (λ m i. let n = map-in statement m (s .ss) (in-along (s .stated) i) in in-same (sym (n .1)) (l .0 (n .0) (n .2)), l .1),
-              λ g. level-from ok rec (s .ss) top (all-accepted j ks) (stands-at x) (s .apart) st (λ u i. g .0 (statement u) (in-along (sym (s .stated)) (in-map statement i))) (g .1),
+              λ g. level-from ok rec (s .ss) top (all-accepted j ks) (stands-at x) (s .apart) st (λ u i. g .0 (statement u) (in-along (sym (s .stated)) (in-map statement i)), g .1),
             );
       }
 
