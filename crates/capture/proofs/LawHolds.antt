@@ -100,165 +100,190 @@ module _ {D A R P Q : Type 0} {K : Kinds D A R} (ok : Lawful K) (p : Post D A R 
 
   -- ---- calls of the sender, which add nothing to what readers accepted and gave out
 
-  quiet : (ks : List (Call D A R)) (rec : List (Change D A R)) (w : World D A R P Q) → Invariant K p q rec (λ j. all-accepted j ks) (λ j. given-out j ks) (λ j. is-settled j ks) w → Invariant K p q rec (λ j. all-accepted j ks ++ []) (λ j. given-out j ks ++ []) (λ j. is-settled j ks) w
-  quiet ks rec w s =
-      keeps-same ok p q rec rec (λ j. all-accepted j ks) (λ j. all-accepted j ks ++ []) (λ j. given-out j ks) (λ j. given-out j ks ++ []) (λ j. is-settled j ks) (λ j. is-settled j ks) w
-      refl (λ j. none-more (all-accepted j ks)) (λ j. none-more (given-out j ks)) (λ j. refl) s
+  module _ (ks : List (Call D A R)) where
+    quiet : (rec : List (Change D A R)) (w : World D A R P Q) → Invariant K p q rec (λ j. all-accepted j ks) (λ j. given-out j ks) (λ j. is-settled j ks) w → Invariant K p q rec (λ j. all-accepted j ks ++ []) (λ j. given-out j ks ++ []) (λ j. is-settled j ks) w
+    quiet rec w s =
+        keeps-same ok p q rec rec (λ j. all-accepted j ks) (λ j. all-accepted j ks ++ []) (λ j. given-out j ks) (λ j. given-out j ks ++ []) (λ j. is-settled j ks) (λ j. is-settled j ks) w
+        refl (λ j. none-more (all-accepted j ks)) (λ j. none-more (given-out j ks)) (λ j. refl) s
 
-  -- and recorded nothing
-  silent : (ks : List (Call D A R)) (w : World D A R P Q) → Kept ks w → Invariant K p q (all-recorded ks ++ []) (λ j. all-accepted j ks ++ []) (λ j. given-out j ks ++ []) (λ j. is-settled j ks) w
-  silent ks w s = subst (λ l. Invariant K p q l (λ j. all-accepted j ks ++ []) (λ j. given-out j ks ++ []) (λ j. is-settled j ks) w) (none-more (all-recorded ks)) (quiet ks (all-recorded ks) w s)
-
-  records-by : (tables : Bool) (ks : List (Call D A R)) (w : World D A R P Q) (cs : List (Change D A R)) → Kept ks w → Kept (recorded cs (record-changes K tables cs (w .sender) .0) ∷ ks) (with-sender w (record-changes K tables cs (w .sender) .1))
-  records-by tables ks w cs s =
-      answer-cases (λ a. Kept (recorded cs (a .0) ∷ ks) (with-sender w (a .1))) (record-asks K tables cs (w .sender)) (w .sender) (tt, after-record ok p q cs (w .sender))
-      (λ n. silent ks w s)
-      (λ yes. quiet ks (all-recorded ks ++ cs) (with-sender w (after-record ok p q cs (w .sender)))
-      (keeps-record ok p q (all-recorded ks) (λ j. all-accepted j ks) (λ j. given-out j ks) (λ j. is-settled j ks) w tables cs yes s))
-
-  moves : (ks : List (Call D A R)) (w : World D A R P Q) (u : List A) (done : Bool) → T (leq below (w .sender .frontier) u) → T (not (leq below u (w .sender .frontier))) → Antichain below u → (done ≡ false → T (some u)) → Kept ks w →
-      Invariant K p q (all-recorded ks ++ []) (λ j. all-accepted j ks ++ []) (λ j. given-out j ks ++ []) (λ j. is-settled j ks) (record { sender = moved K u (w .sender); done = done; changes-post = w .changes-post; statements-post = w .statements-post; readers = w .readers })
-  moves ks w u done on strict apart stands s =
-      silent ks (record { sender = moved K u (w .sender); done = done; changes-post = w .changes-post; statements-post = w .statements-post; readers = w .readers })
-      (keeps-move ok p q (all-recorded ks) (λ j. all-accepted j ks) (λ j. given-out j ks) (λ j. is-settled j ks) w u done on strict apart stands s)
+    -- and recorded nothing
+    silent : (w : World D A R P Q) → Kept ks w → Invariant K p q (all-recorded ks ++ []) (λ j. all-accepted j ks ++ []) (λ j. given-out j ks ++ []) (λ j. is-settled j ks) w
+    silent w s = subst (λ l. Invariant K p q l (λ j. all-accepted j ks ++ []) (λ j. given-out j ks ++ []) (λ j. is-settled j ks) w) (none-more (all-recorded ks)) (quiet (all-recorded ks) w s)
 
   some-kept : (l : List A) → T (some l) → T (some (reduced K l))
   some-kept [] h = absurd h
   some-kept (x ∷ l) h = some-beyond ok p q (reduced K (x ∷ l)) x (T-back (beyond below (reduced K (x ∷ l)) x) (beyond below (x ∷ l) x) (beyond-inserted-all order [] (x ∷ l) x) (or-left (below x x) (beyond below l x) (below-refl order x)))
 
-  closes-by : (tables : Bool) (ks : List (Call D A R)) (w : World D A R P Q) (l : List A) → Kept ks w → Kept (closed l (close K tables l (w .sender) .0) ∷ ks) (with-sender w (close K tables l (w .sender) .1))
-  closes-by tables ks w l s =
-      answer-cases (λ a. Kept (closed l (a .0) ∷ ks) (with-sender w (a .1))) (close-asks K tables l (w .sender)) (w .sender) (tt, moved K (reduced K l) (w .sender))
-      (λ n. silent ks w s)
-      (λ yes.
-      let f = w .sender .frontier in
-      let u = reduced K l in
-      let advances = leq below f l && not (leq below l f) in
-      let ahead : T advances = and-right (some l) advances (yes .1 .0) in
-      let same : (z : A) → beyond below u z ≡ beyond below l z = λ z. beyond-inserted-all order [] l z in
-      let on : T (leq below f u) = leq-from order f u (λ z h. leq-beyond order f l z (and-left (leq below f l) (not (leq below l f)) ahead) (T-along (beyond below u z) (beyond below l z) (same z) h)) in
-      let strict : T (not (leq below u f)) = not-from (leq below u f) (λ h. not-both (leq below l f) (and-right (leq below f l) (not (leq below l f)) ahead) (leq-from order l f (λ z k. T-along (beyond below u z) (beyond below l z) (same z) (leq-beyond order u f z h k)))) in
-      moves ks w u (w .done) on strict (antichain-inserted-all order [] l (antichain-none order)) (λ _. some-kept l (and-left (some l) advances (yes .1 .0))) s)
-
-  finishes-by : (tables : Bool) (ks : List (Call D A R)) (w : World D A R P Q) → w .done ≡ false → Kept ks w → Kept (finished (finish K tables (w .sender) .0) ∷ ks) (finishing w (finish K tables (w .sender)))
-  finishes-by tables ks w going s =
-      answer-cases (λ a. Kept (finished (a .0) ∷ ks) (finishing w a)) (finish-asks K tables (w .sender)) (w .sender) (tt, moved K [] (w .sender))
-      (λ n. silent ks (finishing w (refused n, w .sender)) (record { ss = s .ss; stated = s .stated; chain = s .chain; apart = s .apart; stands = λ _. s .stands going; clean = s .clean; counted = s .counted; small = s .small; says = s .says; valid = s .valid; fine = s .fine }))
-      (λ yes. moves ks w [] true tt (not-empty-leq ok p q (w .sender .frontier) (s .stands going)) (antichain-none order) (λ e. absurd (true≢false e)) s)
-
-  pumps-changes-by : (ks : List (Call D A R)) (w : World D A R P Q) (ms : List (Message D A R)) (post : P) → p .taken post ++ ms ≡ p .taken (w .changes-post) ++ w .sender .queued-changes → Kept ks w → Kept ks (changes-pumped w ms post)
-  pumps-changes-by ks w ms post e s =
-      record { ss = s .ss; stated = s .stated; chain = s .chain; apart = s .apart; stands = s .stands; clean = s .clean; counted = s .counted; small = s .small; says = s .says; valid = λ m i. s .valid m (in-along e i); fine = s .fine }
-
-  pumps-statements-by : (ks : List (Call D A R)) (w : World D A R P Q) (ms : List (Message D A R)) (post : Q) → q .taken post ++ ms ≡ q .taken (w .statements-post) ++ w .sender .queued-statements → Kept ks w → Kept ks (statements-pumped w ms post)
-  pumps-statements-by ks w ms post e s =
-      record { ss = s .ss; stated = e ∙ s .stated; chain = s .chain; apart = s .apart; stands = s .stands; clean = s .clean; counted = s .counted; small = s .small; says = s .says; valid = s .valid; fine = s .fine }
-
-  meanwhile-by : (ks : List (Call D A R)) (w : World D A R P Q) (a : P) (b : Q) → p .taken a ≡ p .taken (w .changes-post) → q .taken b ≡ q .taken (w .statements-post) → Kept ks w → Kept ks (with-posts w a b)
-  meanwhile-by ks w a b ea eb s =
-      record {
-        ss = s .ss; stated = ap (λ l. l ++ w .sender .queued-statements) eb ∙ s .stated; chain = s .chain; apart = s .apart; stands = s .stands; clean = s .clean; counted = s .counted; small = s .small; says = s .says;
-        valid = λ m i. s .valid m (in-along (ap (λ l. l ++ w .sender .queued-changes) ea) i);
-        fine = s .fine;
-      }
-
-  -- ---- calls of a reader, which leave the sender and the other readers
-
-  reads : (ks : List (Call D A R)) (c : Call D A R) (w : World D A R P Q) (i : ℕ) (x y : Reader D A R) (rs : List (Reader D A R)) → (s : Kept ks w) → Turned (w .readers) i x y rs → records-of c ≡ [] →
-      ((j : ℕ) → (j ≡ i → ⊥) → all-accepted j ks ≡ all-accepted j (c ∷ ks)) → ((j : ℕ) → (j ≡ i → ⊥) → given-out j ks ≡ given-out j (c ∷ ks)) → ((j : ℕ) → (j ≡ i → ⊥) → is-settled j ks ≡ is-settled j (c ∷ ks)) →
-      (FineBy ks (all-recorded ks) (s .ss) (w .sender .frontier) i x → FineBy (c ∷ ks) (all-recorded ks) (s .ss) (w .sender .frontier) i y) →
-      Kept (c ∷ ks) (with-readers w rs)
-  reads ks c w i x y rs s τ er ea eo es here =
-      let rec = all-recorded ks in
-      let top = w .sender .frontier in
-      subst (λ l. Invariant K p q l (λ j. all-accepted j (c ∷ ks)) (λ j. given-out j (c ∷ ks)) (λ j. is-settled j (c ∷ ks)) (with-readers w rs)) (none-more rec ∙ ap (λ l. rec ++ l) (sym er))
-      (record {
-        ss = s .ss;
-        stated = s .stated;
-        chain = s .chain;
-        apart = s .apart;
-        stands = s .stands;
-        clean = s .clean;
-        counted = s .counted;
-        small = s .small;
-        says = s .says;
-        valid = s .valid;
-        fine = λ j z a. ⊎-elim
-            (λ h. subst (λ v. FineBy (c ∷ ks) rec (s .ss) top j v) (sym (h .1)) (subst (λ n. FineBy (c ∷ ks) rec (s .ss) top n y) (sym (h .0)) (here (s .fine i x (turned-at τ)))))
-            (λ h. subst (λ b. Fine K rec (s .ss) top (all-accepted j (c ∷ ks)) (given-out j (c ∷ ks)) b z) (es j (h .0)) (subst (λ l. Fine K rec (s .ss) top (all-accepted j (c ∷ ks)) l (is-settled j ks) z) (eo j (h .0)) (subst (λ l. Fine K rec (s .ss) top l (given-out j ks) (is-settled j ks) z) (ea j (h .0)) (s .fine j z (h .1)))))
-            (turned-cases j z τ a);
-      })
-
   -- the same reader, with what it accepted, gave out and whether it is settled said in other words
-  restate : (rec : List (Change D A R)) (ss : List (Statement A)) (top : List A) (ms ms′ : List (Message D A R)) (out out′ : List (Change D A R)) (set set′ : Bool) (x : Reader D A R) → ms ≡ ms′ → out ≡ out′ → set ≡ set′ → Fine K rec ss top ms out set x → Fine K rec ss top ms′ out′ set′ x
-  restate rec ss top ms ms′ out out′ set set′ x em eo es f = subst (λ b. Fine K rec ss top ms′ out′ b x) es (subst (λ l. Fine K rec ss top ms′ l set x) eo (subst (λ l. Fine K rec ss top l out set x) em f))
+  restate : (rec : List (Change D A R)) (ss : List (Statement A)) (top : List A) {ms ms′ : List (Message D A R)} {out out′ : List (Change D A R)} {set set′ : Bool} (x : Reader D A R) → ms ≡ ms′ → out ≡ out′ → set ≡ set′ → Fine K rec ss top ms out set x → Fine K rec ss top ms′ out′ set′ x
+  restate rec ss top {ms} {ms′} {out} {out′} {set} {set′} x em eo es f = subst (λ b. Fine K rec ss top ms′ out′ b x) es (subst (λ l. Fine K rec ss top ms′ l set x) eo (subst (λ l. Fine K rec ss top l out set x) em f))
 
-  told-by : (ks : List (Call D A R)) (w : World D A R P Q) → Once K (all-recorded ks) → (s : Kept ks w) → Told K (all-recorded ks) (s .ss)
-  told-by ks w once s = tells ok p q (all-recorded ks) (λ j. all-accepted j ks) (λ j. given-out j ks) (λ j. is-settled j ks) w once s
+  -- after the calls ks, which led to the world w
+  module _ (ks : List (Call D A R)) (w : World D A R P Q) (s : Kept ks w) where
+    abbrev rec : List (Change D A R)
+    rec = all-recorded ks
 
-  came : (ks : List (Call D A R)) (w : World D A R P Q) (s : Kept ks w) (m : Message D A R) → In m (sent K p q w) → Valid K (all-recorded ks) (s .ss) m
-  came ks w s m i = sent-valid ok p q (all-recorded ks) (λ j. all-accepted j ks) (λ j. given-out j ks) (λ j. is-settled j ks) w s m i
+    abbrev top : List A
+    top = w .sender .frontier
 
-  feeds-by : (tables : Bool) (ks : List (Call D A R)) (w : World D A R P Q) (i : ℕ) (m : Message D A R) (h : Held D A R) (rs : List (Reader D A R)) → In m (sent K p q w) → Turned (w .readers) i (held h) (held (feed K tables m h .1)) rs → Once K (all-recorded ks) → Kept ks w → Kept (fed i m (feed K tables m h .0) ∷ ks) (with-readers w rs)
-  feeds-by tables ks w i m h rs member τ once s =
-      let a = feed K tables m h .0 in
-      let took = brings a (λ _. m ∷ []) in
-      let gave = brings a interval-changes in
-      reads ks (fed i m a) w i (held h) (held (feed K tables m h .1)) rs s τ refl (λ j n. more-there i j (all-accepted j ks) took n) (λ j n. more-there i j (given-out j ks) gave n) (λ j n. refl)
-      (λ f. restate (all-recorded ks) (s .ss) (w .sender .frontier) (all-accepted i ks ++ took) (all-accepted i (fed i m a ∷ ks)) (given-out i ks ++ gave) (given-out i (fed i m a ∷ ks)) (is-settled i ks) (is-settled i ks) (held (feed K tables m h .1)) (more-here i (all-accepted i ks) took) (more-here i (given-out i ks) gave) refl
-      (held-feeds ok (all-recorded ks) (s .ss) (w .sender .frontier) (told-by ks w once s) tables (all-accepted i ks) (given-out i ks) m h (came ks w s m member) f))
+    records-by : (tables : Bool) (cs : List (Change D A R)) → Kept (recorded cs (record-changes K tables cs (w .sender) .0) ∷ ks) (with-sender w (record-changes K tables cs (w .sender) .1))
+    records-by tables cs =
+        answer-cases (λ a. Kept (recorded cs (a .0) ∷ ks) (with-sender w (a .1))) (record-asks K tables cs (w .sender)) (w .sender) (tt, after-record ok p q cs (w .sender))
+        (λ n. silent ks w s)
+        (λ yes. quiet ks (rec ++ cs) (with-sender w (after-record ok p q cs (w .sender))) (keeps-record ok p q rec (λ j. all-accepted j ks) (λ j. given-out j ks) (λ j. is-settled j ks) w tables cs yes s))
 
-  sifts-by : (tables : Bool) (ks : List (Call D A R)) (w : World D A R P Q) (i : ℕ) (cs : List (Change D A R)) (h : Prompt D A R) (rs : List (Reader D A R)) → In (changes cs) (sent K p q w) → Turned (w .readers) i (prompt h) (prompt (sift K tables cs h .1)) rs → Once K (all-recorded ks) → Kept ks w → Kept (sifted i cs (sift K tables cs h .0) ∷ ks) (with-readers w rs)
-  sifts-by tables ks w i cs h rs member τ once s =
-      let a = sift K tables cs h .0 in
-      let took = brings a (λ _. changes cs ∷ []) in
-      let gave = brings a (λ new. new) in
-      let set = cond (is-accepted a) false (is-settled i ks) in
-      reads ks (sifted i cs a) w i (prompt h) (prompt (sift K tables cs h .1)) rs s τ refl (λ j n. more-there i j (all-accepted j ks) took n) (λ j n. more-there i j (given-out j ks) gave n) (λ j n. sym (pick-there i j (cond (is-accepted a) false (is-settled j ks)) (is-settled j ks) n))
-      (λ f. restate (all-recorded ks) (s .ss) (w .sender .frontier) (all-accepted i ks ++ took) (all-accepted i (sifted i cs a ∷ ks)) (given-out i ks ++ gave) (given-out i (sifted i cs a ∷ ks)) set (is-settled i (sifted i cs a ∷ ks)) (prompt (sift K tables cs h .1)) (more-here i (all-accepted i ks) took) (more-here i (given-out i ks) gave) (sym (pick-here i set (is-settled i ks)))
-      (prompt-sifts ok (all-recorded ks) (s .ss) (w .sender .frontier) (told-by ks w once s) tables (all-accepted i ks) (given-out i ks) (is-settled i ks) cs h (came ks w s (changes cs) member) f))
+    moves : (u : List A) (done : Bool) → T (leq below top u) → T (not (leq below u top)) → Antichain below u → (done ≡ false → T (some u)) →
+        Invariant K p q (rec ++ []) (λ j. all-accepted j ks ++ []) (λ j. given-out j ks ++ []) (λ j. is-settled j ks) (record { sender = moved K u (w .sender); done = done; changes-post = w .changes-post; statements-post = w .statements-post; readers = w .readers })
+    moves u done on strict apart stands =
+        silent ks (record { sender = moved K u (w .sender); done = done; changes-post = w .changes-post; statements-post = w .statements-post; readers = w .readers })
+        (keeps-move ok p q rec (λ j. all-accepted j ks) (λ j. given-out j ks) (λ j. is-settled j ks) w u done on strict apart stands s)
 
-  notes-by : (tables : Bool) (ks : List (Call D A R)) (w : World D A R P Q) (i : ℕ) (u : Statement A) (h : Prompt D A R) (rs : List (Reader D A R)) → In (statement u) (sent K p q w) → Turned (w .readers) i (prompt h) (prompt (note K tables u h .1)) rs → Once K (all-recorded ks) → Kept ks w → Kept (noted i u (note K tables u h .0) ∷ ks) (with-readers w rs)
-  notes-by tables ks w i u h rs member τ once s =
-      let a = note K tables u h .0 in
-      let took = brings a (λ _. statement u ∷ []) in
-      let set = cond (is-accepted a) false (is-settled i ks) in
-      reads ks (noted i u a) w i (prompt h) (prompt (note K tables u h .1)) rs s τ refl (λ j n. more-there i j (all-accepted j ks) took n) (λ j n. none-more (given-out j ks)) (λ j n. sym (pick-there i j (cond (is-accepted a) false (is-settled j ks)) (is-settled j ks) n))
-      (λ f. restate (all-recorded ks) (s .ss) (w .sender .frontier) (all-accepted i ks ++ took) (all-accepted i (noted i u a ∷ ks)) (given-out i ks) (given-out i (noted i u a ∷ ks)) set (is-settled i (noted i u a ∷ ks)) (prompt (note K tables u h .1)) (more-here i (all-accepted i ks) took) (none-more (given-out i ks)) (sym (pick-here i set (is-settled i ks)))
-      (prompt-notes ok (all-recorded ks) (s .ss) (w .sender .frontier) (told-by ks w once s) tables (all-accepted i ks) (given-out i ks) (is-settled i ks) u h (came ks w s (statement u) member) f))
+    closes-by : (tables : Bool) (l : List A) → Kept (closed l (close K tables l (w .sender) .0) ∷ ks) (with-sender w (close K tables l (w .sender) .1))
+    closes-by tables l =
+        answer-cases (λ a. Kept (closed l (a .0) ∷ ks) (with-sender w (a .1))) (close-asks K tables l (w .sender)) (w .sender) (tt, moved K (reduced K l) (w .sender))
+        (λ n. silent ks w s)
+        (λ yes.
+        let u = reduced K l in
+        let advances = leq below top l && not (leq below l top) in
+        let ahead : T advances = and-right (some l) advances (yes .1 .0) in
+        let same : (z : A) → beyond below u z ≡ beyond below l z = λ z. beyond-inserted-all order [] l z in
+        let on : T (leq below top u) = leq-from order top u (λ z h. leq-beyond order top l z (and-left (leq below top l) (not (leq below l top)) ahead) (T-along (beyond below u z) (beyond below l z) (same z) h)) in
+        let strict : T (not (leq below u top)) = not-from (leq below u top) (λ h. not-both (leq below l top) (and-right (leq below top l) (not (leq below l top)) ahead) (leq-from order l top (λ z k. T-along (beyond below u z) (beyond below l z) (same z) (leq-beyond order u top z h k)))) in
+        moves u (w .done) on strict (antichain-inserted-all order [] l (antichain-none order)) (λ _. some-kept l (and-left (some l) advances (yes .1 .0))))
 
-  settles-by : (tables : Bool) (ks : List (Call D A R)) (w : World D A R P Q) (i : ℕ) (h : Prompt D A R) (rs : List (Reader D A R)) → Turned (w .readers) i (prompt h) (prompt (settle K tables h .1)) rs → Once K (all-recorded ks) → Kept ks w → Kept (settled i (settle K tables h .0) ∷ ks) (with-readers w rs)
-  settles-by tables ks w i h rs τ once s =
-      let a = settle K tables h .0 in
-      let set = cond (is-accepted a) true (is-settled i ks) in
-      reads ks (settled i a) w i (prompt h) (prompt (settle K tables h .1)) rs s τ refl (λ j n. none-more (all-accepted j ks)) (λ j n. none-more (given-out j ks)) (λ j n. sym (pick-there i j (cond (is-accepted a) true (is-settled j ks)) (is-settled j ks) n))
-      (λ f. restate (all-recorded ks) (s .ss) (w .sender .frontier) (all-accepted i ks) (all-accepted i (settled i a ∷ ks)) (given-out i ks) (given-out i (settled i a ∷ ks)) set (is-settled i (settled i a ∷ ks)) (prompt (settle K tables h .1)) (none-more (all-accepted i ks)) (none-more (given-out i ks)) (sym (pick-here i set (is-settled i ks)))
-      (prompt-settles ok (all-recorded ks) (s .ss) (w .sender .frontier) (told-by ks w once s) tables (all-accepted i ks) (given-out i ks) (is-settled i ks) h f))
+    -- the invariant says of `done` only that a sender that is not finished has a frontier
+    finishes-by : (tables : Bool) → w .done ≡ false → Kept (finished (finish K tables (w .sender) .0) ∷ ks) (finishing w (finish K tables (w .sender)))
+    finishes-by tables going =
+        answer-cases (λ a. Kept (finished (a .0) ∷ ks) (finishing w a)) (finish-asks K tables (w .sender)) (w .sender) (tt, moved K [] (w .sender))
+        (λ n. silent ks (finishing w (refused n, w .sender)) (record { ss = s .ss; stated = s .stated; chain = s .chain; apart = s .apart; stands = λ _. s .stands going; clean = s .clean; counted = s .counted; small = s .small; says = s .says; valid = s .valid; fine = s .fine }))
+        (λ yes. moves [] true tt (not-empty-leq ok p q top (s .stands going)) (antichain-none order) (λ e. absurd (true≢false e)))
 
-  -- a call that only alters what the reader is
-  turns : (ks : List (Call D A R)) (c : Call D A R) (w : World D A R P Q) (i : ℕ) (x y : Reader D A R) (rs : List (Reader D A R)) → (s : Kept ks w) → Turned (w .readers) i x y rs → records-of c ≡ [] → ((j : ℕ) → messages-of j c ≡ []) → ((j : ℕ) → gifts-of j c ≡ []) → ((j : ℕ) → is-settled j ks ≡ is-settled j (c ∷ ks)) →
-      (FineBy ks (all-recorded ks) (s .ss) (w .sender .frontier) i x → FineBy ks (all-recorded ks) (s .ss) (w .sender .frontier) i y) → Kept (c ∷ ks) (with-readers w rs)
-  turns ks c w i x y rs s τ er em eg es here =
-      let same : (j : ℕ) → all-accepted j ks ≡ all-accepted j (c ∷ ks) = λ j. none-more (all-accepted j ks) ∙ ap (λ l. all-accepted j ks ++ l) (sym (em j)) in
-      let gave : (j : ℕ) → given-out j ks ≡ given-out j (c ∷ ks) = λ j. none-more (given-out j ks) ∙ ap (λ l. given-out j ks ++ l) (sym (eg j)) in
-      reads ks c w i x y rs s τ er (λ j n. same j) (λ j n. gave j) (λ j n. es j)
-      (λ f. restate (all-recorded ks) (s .ss) (w .sender .frontier) (all-accepted i ks) (all-accepted i (c ∷ ks)) (given-out i ks) (given-out i (c ∷ ks)) (is-settled i ks) (is-settled i (c ∷ ks)) y (same i) (gave i) (es i) (here f))
+    pumps-changes-by : (ms : List (Message D A R)) (post : P) → p .taken post ++ ms ≡ p .taken (w .changes-post) ++ w .sender .queued-changes → Kept ks (changes-pumped w ms post)
+    pumps-changes-by ms post e =
+        record { ss = s .ss; stated = s .stated; chain = s .chain; apart = s .apart; stands = s .stands; clean = s .clean; counted = s .counted; small = s .small; says = s .says; valid = λ m i. s .valid m (in-along e i); fine = s .fine }
+
+    pumps-statements-by : (ms : List (Message D A R)) (post : Q) → q .taken post ++ ms ≡ q .taken (w .statements-post) ++ w .sender .queued-statements → Kept ks (statements-pumped w ms post)
+    pumps-statements-by ms post e =
+        record { ss = s .ss; stated = e ∙ s .stated; chain = s .chain; apart = s .apart; stands = s .stands; clean = s .clean; counted = s .counted; small = s .small; says = s .says; valid = s .valid; fine = s .fine }
+
+    meanwhile-by : (a : P) (b : Q) → p .taken a ≡ p .taken (w .changes-post) → q .taken b ≡ q .taken (w .statements-post) → Kept ks (with-posts w a b)
+    meanwhile-by a b ea eb =
+        record {
+          ss = s .ss; stated = ap (λ l. l ++ w .sender .queued-statements) eb ∙ s .stated; chain = s .chain; apart = s .apart; stands = s .stands; clean = s .clean; counted = s .counted; small = s .small; says = s .says;
+          valid = λ m i. s .valid m (in-along (ap (λ l. l ++ w .sender .queued-changes) ea) i);
+          fine = s .fine;
+        }
+
+    -- ---- calls of reader i, which leave the sender and the other readers
+
+    reads : (c : Call D A R) (i : ℕ) (x y : Reader D A R) (rs : List (Reader D A R)) → Turned (w .readers) i x y rs → records-of c ≡ [] →
+        ((j : ℕ) → (j ≡ i → ⊥) → all-accepted j ks ≡ all-accepted j (c ∷ ks)) → ((j : ℕ) → (j ≡ i → ⊥) → given-out j ks ≡ given-out j (c ∷ ks)) → ((j : ℕ) → (j ≡ i → ⊥) → is-settled j ks ≡ is-settled j (c ∷ ks)) →
+        (FineBy ks rec (s .ss) top i x → FineBy (c ∷ ks) rec (s .ss) top i y) → Kept (c ∷ ks) (with-readers w rs)
+    reads c i x y rs τ er ea eo es here =
+        subst (λ l. Invariant K p q l (λ j. all-accepted j (c ∷ ks)) (λ j. given-out j (c ∷ ks)) (λ j. is-settled j (c ∷ ks)) (with-readers w rs)) (none-more rec ∙ ap (λ l. rec ++ l) (sym er))
+        (record {
+          ss = s .ss; stated = s .stated; chain = s .chain; apart = s .apart; stands = s .stands; clean = s .clean; counted = s .counted; small = s .small; says = s .says; valid = s .valid;
+          fine = λ j z a. ⊎-elim
+              (λ h. subst (λ v. FineBy (c ∷ ks) rec (s .ss) top j v) (sym (h .1)) (subst (λ n. FineBy (c ∷ ks) rec (s .ss) top n y) (sym (h .0)) (here (s .fine i x (turned-at τ)))))
+              (λ h. restate rec (s .ss) top z (ea j (h .0)) (eo j (h .0)) (es j (h .0)) (s .fine j z (h .1)))
+              (turned-cases j z τ a);
+        })
+
+    told-by : Once K rec → Told K rec (s .ss)
+    told-by once = tells ok p q rec (λ j. all-accepted j ks) (λ j. given-out j ks) (λ j. is-settled j ks) w once s
+
+    came : (m : Message D A R) → In m (sent K p q w) → Valid K rec (s .ss) m
+    came m i = sent-valid ok p q rec (λ j. all-accepted j ks) (λ j. given-out j ks) (λ j. is-settled j ks) w s m i
+
+    feeds-by : (tables : Bool) (i : ℕ) (m : Message D A R) (h : Held D A R) (rs : List (Reader D A R)) → In m (sent K p q w) → Turned (w .readers) i (held h) (held (feed K tables m h .1)) rs → Once K rec → Kept (fed i m (feed K tables m h .0) ∷ ks) (with-readers w rs)
+    feeds-by tables i m h rs member τ once =
+        let a = feed K tables m h .0 in
+        let y = held (feed K tables m h .1) in
+        let took = brings a (λ _. m ∷ []) in
+        let gave = brings a interval-changes in
+        reads (fed i m a) i (held h) y rs τ refl (λ j n. more-there i j (all-accepted j ks) took n) (λ j n. more-there i j (given-out j ks) gave n) (λ j n. refl)
+        (λ f. restate rec (s .ss) top {set = is-settled i ks} y (more-here i (all-accepted i ks) took) (more-here i (given-out i ks) gave) refl (held-feeds ok rec (s .ss) top (told-by once) tables (all-accepted i ks) (given-out i ks) m h (came m member) f))
+
+    sifts-by : (tables : Bool) (i : ℕ) (cs : List (Change D A R)) (h : Prompt D A R) (rs : List (Reader D A R)) → In (changes cs) (sent K p q w) → Turned (w .readers) i (prompt h) (prompt (sift K tables cs h .1)) rs → Once K rec → Kept (sifted i cs (sift K tables cs h .0) ∷ ks) (with-readers w rs)
+    sifts-by tables i cs h rs member τ once =
+        let a = sift K tables cs h .0 in
+        let y = prompt (sift K tables cs h .1) in
+        let took = brings a (λ _. changes cs ∷ []) in
+        let gave = brings a (λ new. new) in
+        let set : ℕ → Bool = λ j. cond (is-accepted a) false (is-settled j ks) in
+        reads (sifted i cs a) i (prompt h) y rs τ refl (λ j n. more-there i j (all-accepted j ks) took n) (λ j n. more-there i j (given-out j ks) gave n) (λ j n. sym (pick-there i j (set j) (is-settled j ks) n))
+        (λ f. restate rec (s .ss) top y (more-here i (all-accepted i ks) took) (more-here i (given-out i ks) gave) (sym (pick-here i (set i) (is-settled i ks))) (prompt-sifts ok rec (s .ss) top (told-by once) tables (all-accepted i ks) (given-out i ks) (is-settled i ks) cs h (came (changes cs) member) f))
+
+    notes-by : (tables : Bool) (i : ℕ) (u : Statement A) (h : Prompt D A R) (rs : List (Reader D A R)) → In (statement u) (sent K p q w) → Turned (w .readers) i (prompt h) (prompt (note K tables u h .1)) rs → Once K rec → Kept (noted i u (note K tables u h .0) ∷ ks) (with-readers w rs)
+    notes-by tables i u h rs member τ once =
+        let a = note K tables u h .0 in
+        let y = prompt (note K tables u h .1) in
+        let took = brings a (λ _. statement u ∷ []) in
+        let set : ℕ → Bool = λ j. cond (is-accepted a) false (is-settled j ks) in
+        reads (noted i u a) i (prompt h) y rs τ refl (λ j n. more-there i j (all-accepted j ks) took n) (λ j n. none-more (given-out j ks)) (λ j n. sym (pick-there i j (set j) (is-settled j ks) n))
+        (λ f. restate rec (s .ss) top y (more-here i (all-accepted i ks) took) (none-more (given-out i ks)) (sym (pick-here i (set i) (is-settled i ks))) (prompt-notes ok rec (s .ss) top (told-by once) tables (all-accepted i ks) (given-out i ks) (is-settled i ks) u h (came (statement u) member) f))
+
+    settles-by : (tables : Bool) (i : ℕ) (h : Prompt D A R) (rs : List (Reader D A R)) → Turned (w .readers) i (prompt h) (prompt (settle K tables h .1)) rs → Once K rec → Kept (settled i (settle K tables h .0) ∷ ks) (with-readers w rs)
+    settles-by tables i h rs τ once =
+        let a = settle K tables h .0 in
+        let y = prompt (settle K tables h .1) in
+        let set : ℕ → Bool = λ j. cond (is-accepted a) true (is-settled j ks) in
+        reads (settled i a) i (prompt h) y rs τ refl (λ j n. none-more (all-accepted j ks)) (λ j n. none-more (given-out j ks)) (λ j n. sym (pick-there i j (set j) (is-settled j ks) n))
+        (λ f. restate rec (s .ss) top y (none-more (all-accepted i ks)) (none-more (given-out i ks)) (sym (pick-here i (set i) (is-settled i ks))) (prompt-settles ok rec (s .ss) top (told-by once) tables (all-accepted i ks) (given-out i ks) (is-settled i ks) h f))
+
+    -- heed and putting away give out and accept nothing
+    turns : (c : Call D A R) (i : ℕ) (x y : Reader D A R) (rs : List (Reader D A R)) → Turned (w .readers) i x y rs → records-of c ≡ [] → ((j : ℕ) → messages-of j c ≡ []) → ((j : ℕ) → gifts-of j c ≡ []) → ((j : ℕ) → is-settled j ks ≡ is-settled j (c ∷ ks)) →
+        (FineBy ks rec (s .ss) top i x → FineBy ks rec (s .ss) top i y) → Kept (c ∷ ks) (with-readers w rs)
+    turns c i x y rs τ er em eg es here =
+        let same : (j : ℕ) → all-accepted j ks ≡ all-accepted j (c ∷ ks) = λ j. none-more (all-accepted j ks) ∙ ap (λ l. all-accepted j ks ++ l) (sym (em j)) in
+        let gave : (j : ℕ) → given-out j ks ≡ given-out j (c ∷ ks) = λ j. none-more (given-out j ks) ∙ ap (λ l. given-out j ks ++ l) (sym (eg j)) in
+        reads c i x y rs τ er (λ j n. same j) (λ j n. gave j) (λ j n. es j) (λ f. restate rec (s .ss) top y (same i) (gave i) (es i) (here f))
+
+    -- ---- the law from the invariant
+
+    given-of : (j : ℕ) (x : Reader D A R) → FineBy ks rec (s .ss) top j x → Given K ks j x
+    given-of j (held h) f = held-given ok rec (s .ss) top (all-accepted j ks) (given-out j ks) h f
+    given-of j (prompt h) f = prompt-given ok rec (s .ss) top (all-accepted j ks) (given-out j ks) (is-settled j ks) h f
+    given-of j (away h) f = prompt-given ok rec (s .ss) top (all-accepted j ks) (given-out j ks) (is-settled j ks) h f
+
+    stand-of : Once K rec → (j : ℕ) (x : Reader D A R) → T (counts-in j ks x) → FineBy ks rec (s .ss) top j x → Stand K rec (s .ss) top (all-accepted j ks) (stands-at x)
+    stand-of once j (held h) c f = held-stands ok rec (s .ss) top (told-by once) (all-accepted j ks) (given-out j ks) h f
+    stand-of once j (prompt h) c f = prompt-stands ok rec (s .ss) top (told-by once) (all-accepted j ks) (given-out j ks) (is-settled j ks) h c f
+    stand-of once j (away h) c f = prompt-stands ok rec (s .ss) top (told-by once) (all-accepted j ks) (given-out j ks) (is-settled j ks) h c f
+
+    promised : Once K rec → Promises K p q ks w
+    promised once =
+        record {
+          given = λ j x a. given-of j x (s .fine j x a);
+          agree = λ i j x y a b cx cy same.
+              stands-agree ok rec (s .ss) top (all-accepted i ks) (all-accepted j ks) (stands-at x) (stands-at y) (λ m h. same m .0 h) (λ m h. same m .1 h) (stand-of once i x cx (s .fine i x a)) (stand-of once j y cy (s .fine j y b));
+          behind-sender = λ j x a. fine-behind ok rec (s .ss) top (all-accepted j ks) (given-out j ks) (is-settled j ks) x (s .fine j x a);
+          level = λ j x a c none gone.
+              let st = stand-of once j x c (s .fine j x a) in (
+                λ e.
+                    let l = level-to ok rec (s .ss) top (all-accepted j ks) (stands-at x) st e in
+                    (λ m i. let n = map-in statement m (s .ss) (in-along (s .stated) i) in in-same (sym (n .1)) (l .0 (n .0) (n .2)), l .1),
+                λ g. level-from ok rec (s .ss) top (all-accepted j ks) (stands-at x) (s .apart) st (λ u i. g .0 (statement u) (in-along (sym (s .stated)) (in-map statement i)), g .1),
+              );
+        }
+
+  -- ---- every step, and every run
 
   step-keeps : {v : World D A R P Q} {c : Call D A R} {w : World D A R P Q} (ks : List (Call D A R)) → Step K p q v c w → Once K (all-recorded ks) → Kept ks v → Kept (c ∷ ks) w
-  step-keeps ks (Step.records {w = v} tables {cs = cs} going) once s = records-by tables ks v cs s
-  step-keeps ks (Step.closes {w = v} tables {l = l} going) once s = closes-by tables ks v l s
-  step-keeps ks (Step.finishes {w = v} tables going) once s = finishes-by tables ks v going s
-  step-keeps ks (Step.pumps-changes {w = v} tables {ms = ms} {post = post} pumped) once s = silent ks (changes-pumped v ms post) (pumps-changes-by ks v ms post (pump-keeps p pumped) s)
-  step-keeps ks (Step.pumps-statements {w = v} tables {ms = ms} {post = post} pumped) once s = silent ks (statements-pumped v ms post) (pumps-statements-by ks v ms post (pump-keeps q pumped) s)
-  step-keeps ks (Step.feeds {w = v} tables {i = i} {m = m} {h = h} {rs = rs} member τ) once s = feeds-by tables ks v i m h rs member τ once s
-  step-keeps ks (Step.sifts {w = v} tables {i = i} {cs = cs} {h = h} {rs = rs} member τ) once s = sifts-by tables ks v i cs h rs member τ once s
-  step-keeps ks (Step.notes {w = v} tables {i = i} {s = u} {h = h} {rs = rs} member τ) once s = notes-by tables ks v i u h rs member τ once s
-  step-keeps ks (Step.settles {w = v} tables {i = i} {h = h} {rs = rs} τ) once s = settles-by tables ks v i h rs τ once s
+  step-keeps ks (Step.records {w = v} tables {cs = cs} going) once s = records-by ks v s tables cs
+  step-keeps ks (Step.closes {w = v} tables {l = l} going) once s = closes-by ks v s tables l
+  step-keeps ks (Step.finishes {w = v} tables going) once s = finishes-by ks v s tables going
+  step-keeps ks (Step.pumps-changes {w = v} tables {ms = ms} {post = post} pumped) once s = silent ks (changes-pumped v ms post) (pumps-changes-by ks v s ms post (pump-keeps p pumped))
+  step-keeps ks (Step.pumps-statements {w = v} tables {ms = ms} {post = post} pumped) once s = silent ks (statements-pumped v ms post) (pumps-statements-by ks v s ms post (pump-keeps q pumped))
+  step-keeps ks (Step.feeds {w = v} tables {i = i} {m = m} {h = h} {rs = rs} member τ) once s = feeds-by ks v s tables i m h rs member τ once
+  step-keeps ks (Step.sifts {w = v} tables {i = i} {cs = cs} {h = h} {rs = rs} member τ) once s = sifts-by ks v s tables i cs h rs member τ once
+  step-keeps ks (Step.notes {w = v} tables {i = i} {s = u} {h = h} {rs = rs} member τ) once s = notes-by ks v s tables i u h rs member τ once
+  step-keeps ks (Step.settles {w = v} tables {i = i} {h = h} {rs = rs} τ) once s = settles-by ks v s tables i h rs τ once
   step-keeps ks (Step.heeds {w = v} tables {i = i} {h = h} {rs = rs} τ) once s =
-      turns ks (heeded i (heed K tables h .0)) v i (prompt h) (prompt (heed K tables h .1)) rs s τ refl (λ j. refl) (λ j. refl) (λ j. refl)
-      (λ f. prompt-heeds ok (all-recorded ks) (s .ss) (v .sender .frontier) (told-by ks v once s) tables (all-accepted i ks) (given-out i ks) (is-settled i ks) h f)
+      turns ks v s (heeded i (heed K tables h .0)) i (prompt h) (prompt (heed K tables h .1)) rs τ refl (λ j. refl) (λ j. refl) (λ j. refl)
+      (λ f. prompt-heeds ok (all-recorded ks) (s .ss) (v .sender .frontier) (told-by ks v s once) tables (all-accepted i ks) (given-out i ks) (is-settled i ks) h f)
   step-keeps ks (Step.puts-away {w = v} tables {i = i} {h = h} {rs = rs} τ) once s =
-      turns ks (put i (put-away tables h .0)) v i (prompt h) (put-away tables h .1) rs s τ refl (λ j. refl) (λ j. refl) (λ j. refl)
+      turns ks v s (put i (put-away tables h .0)) i (prompt h) (put-away tables h .1) rs τ refl (λ j. refl) (λ j. refl) (λ j. refl)
       (λ f. fine-put-away ok tables (all-recorded ks) (s .ss) (v .sender .frontier) (all-accepted i ks) (given-out i ks) (is-settled i ks) h f)
 
   -- what was recorded before a call is the front of what was recorded after it
@@ -268,37 +293,7 @@ module _ {D A R P Q : Type 0} {K : Kinds D A R} (ok : Lawful K) (p : Post D A R 
   run-keeps : {ks : List (Call D A R)} {w : World D A R P Q} → Run K p q ks w → Once K (all-recorded ks) → Kept ks w
   run-keeps (Run.begun sorts {a = a} {b = b} ea eb) once = begins sorts a b ea eb
   run-keeps (Run.then {ks = ks} {c = c} run step) once = let before = once-before c ks once in step-keeps ks step before (run-keeps run before)
-  run-keeps (Run.meanwhile {ks = ks} {w = w} {a = a} {b = b} run ea eb) once = meanwhile-by ks w a b ea eb (run-keeps run once)
-
-  -- ---- the law from the invariant
-
-  given-of : (ks : List (Call D A R)) (w : World D A R P Q) (s : Kept ks w) (j : ℕ) (x : Reader D A R) → FineBy ks (all-recorded ks) (s .ss) (w .sender .frontier) j x → Given K ks j x
-  given-of ks w s j (held h) f = held-given ok (all-recorded ks) (s .ss) (w .sender .frontier) (all-accepted j ks) (given-out j ks) h f
-  given-of ks w s j (prompt h) f = prompt-given ok (all-recorded ks) (s .ss) (w .sender .frontier) (all-accepted j ks) (given-out j ks) (is-settled j ks) h f
-  given-of ks w s j (away h) f = prompt-given ok (all-recorded ks) (s .ss) (w .sender .frontier) (all-accepted j ks) (given-out j ks) (is-settled j ks) h f
-
-  stand-of : (ks : List (Call D A R)) (w : World D A R P Q) (s : Kept ks w) → Once K (all-recorded ks) → (j : ℕ) (x : Reader D A R) → T (counts-in j ks x) → FineBy ks (all-recorded ks) (s .ss) (w .sender .frontier) j x → Stand K (all-recorded ks) (s .ss) (w .sender .frontier) (all-accepted j ks) (stands-at x)
-  stand-of ks w s once j (held h) c f = held-stands ok (all-recorded ks) (s .ss) (w .sender .frontier) (told-by ks w once s) (all-accepted j ks) (given-out j ks) h f
-  stand-of ks w s once j (prompt h) c f = prompt-stands ok (all-recorded ks) (s .ss) (w .sender .frontier) (told-by ks w once s) (all-accepted j ks) (given-out j ks) (is-settled j ks) h c f
-  stand-of ks w s once j (away h) c f = prompt-stands ok (all-recorded ks) (s .ss) (w .sender .frontier) (told-by ks w once s) (all-accepted j ks) (given-out j ks) (is-settled j ks) h c f
-
-  promised : (ks : List (Call D A R)) (w : World D A R P Q) → Once K (all-recorded ks) → Kept ks w → Promises K p q ks w
-  promised ks w once s =
-      let rec = all-recorded ks in
-      let top = w .sender .frontier in
-      record {
-        given = λ j x a. given-of ks w s j x (s .fine j x a);
-        agree = λ i j x y a b cx cy same.
-            stands-agree ok rec (s .ss) top (all-accepted i ks) (all-accepted j ks) (stands-at x) (stands-at y) (λ m h. same m .0 h) (λ m h. same m .1 h) (stand-of ks w s once i x cx (s .fine i x a)) (stand-of ks w s once j y cy (s .fine j y b));
-        behind-sender = λ j x a. fine-behind ok rec (s .ss) top (all-accepted j ks) (given-out j ks) (is-settled j ks) x (s .fine j x a);
-        level = λ j x a c none gone.
-            let st = stand-of ks w s once j x c (s .fine j x a) in (
-              λ e.
-                  let l = level-to ok rec (s .ss) top (all-accepted j ks) (stands-at x) st e in
-                  (λ m i. let n = map-in statement m (s .ss) (in-along (s .stated) i) in in-same (sym (n .1)) (l .0 (n .0) (n .2)), l .1),
-              λ g. level-from ok rec (s .ss) top (all-accepted j ks) (stands-at x) (s .apart) st (λ u i. g .0 (statement u) (in-along (sym (s .stated)) (in-map statement i)), g .1),
-            );
-      }
+  run-keeps (Run.meanwhile {ks = ks} {w = w} {a = a} {b = b} run ea eb) once = meanwhile-by ks w (run-keeps run once) a b ea eb
 
   -- ---- no reader retreats
 
@@ -325,17 +320,17 @@ module _ {D A R P Q : Type 0} {K : Kinds D A R} (ok : Lawful K) (p : Post D A R 
   step-onward ks (Step.pumps-changes tables pumped) once s j x y a b = still-there j x y a b
   step-onward ks (Step.pumps-statements tables pumped) once s j x y a b = still-there j x y a b
   step-onward ks (Step.feeds {w = v} tables {i = i} {m = m} {h = h} member τ) once s j x y a b =
-      turned-onward j x y τ (held-onward ok (all-recorded ks) (s .ss) (v .sender .frontier) (told-by ks v once s) tables (all-accepted i ks) (given-out i ks) m h (came ks v s m member) (s .fine i (held h) (turned-at τ))) a b
+      turned-onward j x y τ (held-onward ok (all-recorded ks) (s .ss) (v .sender .frontier) (told-by ks v s once) tables (all-accepted i ks) (given-out i ks) m h (came ks v s m member) (s .fine i (held h) (turned-at τ))) a b
   step-onward ks (Step.sifts tables {cs = cs} {h = h} member τ) once s j x y a b = turned-still j x y τ (sift-still ok tables cs h) a b
   step-onward ks (Step.notes tables {s = u} {h = h} member τ) once s j x y a b = turned-still j x y τ (note-still ok tables u h) a b
   step-onward ks (Step.settles {w = v} tables {i = i} {h = h} τ) once s j x y a b =
-      turned-onward j x y τ (settle-onward ok (all-recorded ks) (s .ss) (v .sender .frontier) (told-by ks v once s) tables (all-accepted i ks) (given-out i ks) (is-settled i ks) h (s .fine i (prompt h) (turned-at τ))) a b
+      turned-onward j x y τ (settle-onward ok (all-recorded ks) (s .ss) (v .sender .frontier) (told-by ks v s once) tables (all-accepted i ks) (given-out i ks) (is-settled i ks) h (s .fine i (prompt h) (turned-at τ))) a b
   step-onward ks (Step.heeds tables {h = h} τ) once s j x y a b = turned-still j x y τ (heed-still ok tables h) a b
   step-onward ks (Step.puts-away tables {h = h} τ) once s j x y a b = turned-still j x y τ (put-away-still ok tables h) a b
 
   pub law : Law K p q
   law =
       record {
-        promises = λ ks w run one. let once = one-each-once ok (all-recorded ks) one in promised ks w once (run-keeps run once);
+        promises = λ ks w run one. let once = one-each-once ok (all-recorded ks) one in promised ks w (run-keeps run once) once;
         onward = λ ks v w c run step one j x y a b. let once = once-before c ks (one-each-once ok (all-recorded (c ∷ ks)) one) in step-onward ks step once (run-keeps run once) j x y a b;
       }
