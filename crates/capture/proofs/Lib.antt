@@ -15,3 +15,4 @@ pub mod ReadersKeep
 pub mod Standings
 pub mod Invariant
 pub mod LawHolds
+pub mod Copies

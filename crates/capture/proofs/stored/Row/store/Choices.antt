@@ -1,0 +1,7 @@
+use mathlib.Core.Path.{_≡_}
+use lib.ListN.{take, length}
+use Rattle.capture.proofs.stored.Row.store.Given as given
+
+-- what was written so far is the front of the list
+abbrev pub Inv-loop-i : given.InvT-loop-i
+Inv-loop-i g l = take (l .i) (l .self .items) ≡ take (l .i) (l .from)
