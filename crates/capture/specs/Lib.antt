@@ -12,4 +12,4 @@ pub mod Runs
 pub mod Law
 pub mod Views
 pub mod Deliveries
-pub mod Stored
+pub mod Rows

@@ -1,6 +1,6 @@
 use mathlib.Core.Path.{_≡_}
 use lib.ListN.{take, length}
-use Rattle.capture.proofs.stored.Row.store.Given as given
+use Rattle.capture.proofs.row.Row.fill.Given as given
 
 -- what was written so far is the front of the list
 abbrev pub Inv-loop-i : given.InvT-loop-i
