@@ -14,7 +14,6 @@ use Rattle.lattice.specs.Orders.{Order, at-once}
 use Rattle.frontier.proofs.Antichains.{is-same, same-is}
 use Rattle.frontier.specs.Counts.{added, added-all, entry, is-zero, positive, positives, stopped}
 use Rattle.frontier.specs.Frontiers.{beyond}
-use Rattle.capture.specs.Deliveries.{s}
 use Rattle.capture.specs.Sender.{count-at}
 
 pub stopped-abs : (z : ℤ) → natAbs z ≤ 9223372036854775807 → stopped z ≡ z

@@ -7,7 +7,7 @@ use Prim.Native.Nat.{_+_, _≤_, ℕ}
 use borrow.Author.Differences.{ints}
 use lib.Dec.{T, leb, leb→le}
 use lib.IntN.{_+ℤ_, natAbs, pos, ℤ}
-use lib.ListN.{length}
+use lib.ListN.{length, set}
 use native.Mathlib.Omega.{arith}
 use Rattle.std.proofs.shelf.Lists.{map-push}
 use Rattle.std.specs.declared.option.Option.{Option}
@@ -18,10 +18,9 @@ use Rattle.frontier.proofs.Beyond.{leq-beyond}
 use Rattle.frontier.specs.Counts.{added-all}
 use Rattle.frontier.specs.Frontiers.{Antichain, beyond, leq}
 use Rattle.capture.specs.Answers.{Answer}
-use Rattle.capture.specs.Deliveries.{s}
 use Rattle.capture.specs.Kinds.{Kinds, Time}
 use Rattle.capture.specs.Law.{all-stated}
-use Rattle.capture.specs.Messages.{Change, Message, Statement, changes, has, statement}
+use Rattle.capture.specs.Messages.{Change, Message, Statement, changes, has, short, statement}
 use Rattle.capture.specs.Posts.{Post, Pump, Pumped}
 use Rattle.capture.specs.Readers.{Reader}
 use Rattle.capture.specs.Runs.{At, In, World, sent, with-sender}

@@ -6,6 +6,7 @@ use mathlib.Core.List.{List, [], _++_, _∷_, append-nil, map}
 use Prim.Native.Nat.{ℕ}
 use lib.Dec.{T, eqb}
 use lib.IntN.{pos}
+use lib.ListN.{set}
 use native.Mathlib.Omega.{arith}
 use Rattle.std.proofs.shelf.Tests.{eq-eqb, ne-eqb, true≢false}
 use Rattle.lattice.proofs.Tests.{T-along, T-back, and-left, and-right, not-both, not-from, or-left}
@@ -14,7 +15,6 @@ use Rattle.frontier.proofs.Antichains.{antichain-inserted-all, antichain-none, 
 use Rattle.frontier.proofs.Beyond.{below-refl, beyond-inserted-all, leq-beyond, leq-from, leq-refl}
 use Rattle.frontier.specs.Frontiers.{Antichain, beyond, leq}
 use Rattle.capture.specs.Answers.{brings, is-accepted, refused}
-use Rattle.capture.specs.Deliveries.{one, s}
 use Rattle.capture.specs.Held.{Held, feed}
 use Rattle.capture.specs.Kinds.{Kinds, Time}
 use Rattle.capture.specs.Law.{Given, Law, Promises, all-accepted, all-recorded, counts-in, gifts-of, given-out, interval-changes, is-settled, messages-of, records-of}

@@ -16,3 +16,4 @@ pub mod Standings
 pub mod Invariant
 pub mod LawHolds
 pub mod Copies
+pub mod Lengths

@@ -19,7 +19,7 @@ use Rattle.frontier.proofs.Beyond.{leq-beyond, leq-from, leq-refl, leq-trans}
 use Rattle.frontier.proofs.Joining.{beyond-join, leq-join-right}
 use Rattle.frontier.specs.Frontiers.{Antichain, beyond, join, leq, pairwise}
 use Rattle.capture.specs.Kinds.{Time}
-use Rattle.capture.specs.Messages.{Statement}
+use Rattle.capture.specs.Messages.{Statement, short}
 use Rattle.capture.specs.Runs.{In}
 use Rattle.capture.specs.Sender.{count-at, told}
 use Rattle.capture.specs.Statements.{Progress, act, advanced, counts-beyond, drained, first-ready, fresh-progress, passed, ready, small, with-waiting}

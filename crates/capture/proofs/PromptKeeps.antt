@@ -6,6 +6,7 @@ use Prim.Native.Nat.{_+_, _≤_, ℕ}
 use borrow.Author.Differences.{ints}
 use lib.Dec.{T}
 use lib.IntN.{_+ℤ_, natAbs, pos, ℤ}
+use lib.ListN.{set}
 use native.Mathlib.Omega.{arith}
 use Rattle.std.proofs.shelf.Tests.{true≢false}
 use Rattle.lattice.proofs.Tests.{T-along, T-back, and-intro, and-left, by-cases, not-both, not-from}

@@ -5,13 +5,13 @@ use mathlib.Core.Bool.{Bool, _&&_, not}
 use mathlib.Core.List.{List, [], _++_, _∷_, append-nil}
 use Prim.Native.Nat.{ℕ}
 use lib.Dec.{T}
+use lib.ListN.{set}
 use native.Mathlib.Omega.{arith}
 use Rattle.lattice.proofs.Tests.{T-along, T-back, and-intro, and-left, and-right, by-cases, cond-false, cond-true, not-both, not-from}
 use Rattle.lattice.specs.Orders.{Joins, Order}
 use Rattle.frontier.proofs.Antichains.{equal-beyond, equal-from}
 use Rattle.frontier.proofs.Beyond.{beyond-up, leq-beyond, leq-from, leq-trans}
 use Rattle.frontier.specs.Frontiers.{Antichain, beyond, equal, leq}
-use Rattle.capture.specs.Deliveries.{one, s}
 use Rattle.capture.specs.Held.{Held}
 use Rattle.capture.specs.Kinds.{Kinds, Time}
 use Rattle.capture.specs.Law.{Published, Shipped, change-accepted, how-often}

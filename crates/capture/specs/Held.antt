@@ -9,8 +9,8 @@ use Rattle.std.specs.declared.option.Option.the-variants.{Some, None}
 use Rattle.frontier.specs.Frontiers.{equal}
 use Rattle.frontier.specs.Counts.{added-all, room}
 use Rattle.capture.specs.Kinds.{Kinds}
-use Rattle.capture.specs.Sizes.{message-changes, reader-changes, reader-counts, largest-tally}
-use Rattle.capture.specs.Messages.{Change, Message, changes, statement, fresh, those-behind, those-beyond}
+use Rattle.capture.specs.Sizes.{reader-changes, reader-counts, largest-tally}
+use Rattle.capture.specs.Messages.{Change, Message, changes, statement, short-changes, fresh, those-behind, those-beyond}
 use Rattle.capture.specs.Answers.{Answer, answer, table-asks}
 use Rattle.capture.specs.Statements.{Progress, fresh-progress, lowered, advanced, statement-asks, lower-edge, edge-fits}
 
@@ -47,7 +47,7 @@ module _ {D A R : Type 0} (k : Kinds D A R) where
   -- what feed asks, in order
   abbrev pub feed-asks : Bool → Message D A R → Held D A R → List (Bool × ℕ)
   feed-asks tables (changes cs) h =
-      (tables, 1) ∷ (leb (length cs) message-changes, 2) ∷ (leb (length (h .updates ++ news cs h)) reader-changes, 9) ∷
+      (tables, 1) ∷ (short-changes cs, 2) ∷ (leb (length (h .updates ++ news cs h)) reader-changes, 9) ∷
       (room (k .time .below) reader-counts (h .progress .counts) (lowered (news cs h)), 11) ∷ (edge-fits (k .time) (lowered-by (news cs h) (h .progress)), 12) ∷ []
   feed-asks tables (statement s) h = (tables, 1) ∷ statement-asks (k .time) s (h .progress) ++ (edge-fits (k .time) (advanced (k .time) s (h .progress)), 12) ∷ []
 

@@ -2,10 +2,13 @@
 use mathlib.Core.Bool.{Bool, false, cond, not, _||_, _&&_}
 use mathlib.Core.List.{List, [], _∷_, _++_}
 use Prim.Native.Nat.{ℕ}
+use lib.Dec.{leb}
+use lib.ListN.{length}
 use Rattle.std.specs.shelf.Lists.{kept-by}
 use Rattle.lattice.specs.Orders.{at-once}
 use Rattle.frontier.specs.Frontiers.{beyond}
 use Rattle.capture.specs.Kinds.{Kinds}
+use Rattle.capture.specs.Sizes.{message-changes, statement-times, statement-counts}
 
 -- what changed, when, and by how much
 pub record Change (D A R : Type 0) : Type 0 where
@@ -23,6 +26,19 @@ pub record Statement (A : Type 0) : Type 0 where
 pub data Message (D A R : Type 0) : Type 0 where
   changes : List (Change D A R) → Message D A R
   statement : Statement A → Message D A R
+
+-- the changes are not too many for a message
+abbrev pub short-changes : {D A R : Type 0} → List (Change D A R) → Bool
+short-changes cs = leb (length cs) message-changes
+
+-- none of the statement's lists is too long
+abbrev pub short-statement : {A : Type 0} → Statement A → Bool
+short-statement s = leb (length (s .lower)) statement-times && (leb (length (s .upper)) statement-times && leb (length (s .counts)) statement-counts)
+
+-- the message is not too long, as question 2 asks
+abbrev pub short : {D A R : Type 0} → Message D A R → Bool
+short (changes cs) = short-changes cs
+short (statement s) = short-statement s
 
 module _ {D A R : Type 0} (k : Kinds D A R) where
   -- the two changes have the same data and the same time

@@ -8,8 +8,8 @@ use lib.IntN.{ℤ}
 use Rattle.frontier.specs.Frontiers.{beyond}
 use Rattle.frontier.specs.Counts.{added-all, room}
 use Rattle.capture.specs.Kinds.{Kinds}
-use Rattle.capture.specs.Sizes.{message-changes, reader-changes, reader-counts}
-use Rattle.capture.specs.Messages.{Change, Statement, coincide, fresh, those-beyond}
+use Rattle.capture.specs.Sizes.{reader-changes, reader-counts}
+use Rattle.capture.specs.Messages.{Change, Statement, short-changes, coincide, fresh, those-beyond}
 use Rattle.capture.specs.Answers.{Answer, answer, table-asks}
 use Rattle.capture.specs.Statements.{Progress, fresh-progress, lowered, advanced, statement-asks, lower-edge, edge-fits}
 
@@ -43,7 +43,7 @@ module _ {D A R : Type 0} (k : Kinds D A R) where
   -- what sift asks, in order
   abbrev pub sift-asks : Bool → List (Change D A R) → Prompt D A R → List (Bool × ℕ)
   sift-asks tables cs p =
-      (tables, 1) ∷ (leb (length cs) message-changes, 2) ∷ (undisputed (p .heeded) (p .pending) cs, 8) ∷ (leb (length (p .pending ++ shipped cs p)) reader-changes, 9) ∷
+      (tables, 1) ∷ (short-changes cs, 2) ∷ (undisputed (p .heeded) (p .pending) cs, 8) ∷ (leb (length (p .pending ++ shipped cs p)) reader-changes, 9) ∷
       (room (k .time .below) reader-counts (p .waiting-counts) (lowered (shipped cs p)), 11) ∷ []
 
   -- sift takes changes, and tells those that it ships

@@ -12,8 +12,8 @@ use Rattle.frontier.specs.Frontiers.{beyond, leq, fits, inserted-all}
 use Rattle.frontier.specs.Counts.{added-all, room}
 use Rattle.frontier.specs.Tables.{frontier-size}
 use Rattle.capture.specs.Kinds.{Kinds}
-use Rattle.capture.specs.Sizes.{message-changes, largest-count, sender-counts, queue-messages}
-use Rattle.capture.specs.Messages.{Change, Statement, Message, changes, statement}
+use Rattle.capture.specs.Sizes.{largest-count, sender-counts, queue-messages}
+use Rattle.capture.specs.Messages.{Change, Statement, Message, changes, statement, short-changes}
 use Rattle.capture.specs.Answers.{Answer, answer}
 use Rattle.capture.specs.Statements.{small}
 
@@ -63,7 +63,7 @@ module _ {D A R : Type 0} (k : Kinds D A R) where
   -- what a record asks, in order; 5 asks the resulting count of each recorded time
   abbrev pub record-asks : Bool → List (Change D A R) → Sender D A R → List (Bool × ℕ)
   record-asks tables cs s =
-      (tables, 1) ∷ (leb (length cs) message-changes, 2) ∷ (all-pass (λ c. beyond (k .time .below) (s .frontier) (c .time)) cs, 3) ∷
+      (tables, 1) ∷ (short-changes cs, 2) ∷ (all-pass (λ c. beyond (k .time .below) (s .frontier) (c .time)) cs, 3) ∷
       (all-pass (λ c. leb (told (count-at (k .time .below) (counts-with cs s) (c .time))) largest-count) cs, 5) ∷
       (room (k .time .below) sender-counts (s .counts) (raised cs), 11) ∷ (ltb (length (s .queued-changes)) queue-messages, 13) ∷ []
 

@@ -14,8 +14,8 @@ use Rattle.frontier.specs.Frontiers.{beyond, leq, inserted-all, fits, pairwise,
 use Rattle.frontier.specs.Counts.{added-all, room, positives}
 use Rattle.frontier.specs.Tables.{frontier-size}
 use Rattle.capture.specs.Kinds.{Time}
-use Rattle.capture.specs.Sizes.{statement-times, statement-counts, largest-count, reader-statements, reader-counts}
-use Rattle.capture.specs.Messages.{Change, Statement}
+use Rattle.capture.specs.Sizes.{largest-count, reader-statements, reader-counts}
+use Rattle.capture.specs.Messages.{Change, Statement, short-statement}
 
 pub record Progress (A : Type 0) : Type 0 where
   -- the progress frontier: the statements that acted reach to it without a gap
@@ -101,8 +101,7 @@ module _ {A : Type 0} (t : Time A) where
   -- what a statement is asked: of all 2, 5, 6 and 7; of one that acts 11 and 12 at each act; of one that must wait 10
   abbrev pub statement-asks : Statement A → Progress A → List (Bool × ℕ)
   statement-asks s p =
-      (leb (length (s .lower)) statement-times && (leb (length (s .upper)) statement-times && leb (length (s .counts)) statement-counts), 2) ∷
-      (small (s .counts), 5) ∷ (inside (t .below) (s .lower) (s .upper) (s .counts), 6) ∷ (counted-once (t .below) (s .counts), 7) ∷
+      (short-statement s, 2) ∷ (small (s .counts), 5) ∷ (inside (t .below) (s .lower) (s .upper) (s .counts), 6) ∷ (counted-once (t .below) (s .counts), 7) ∷
       cond (passed (t .below) (p .frontier) s) []
       (cond (ready (t .below) (p .frontier) s) (act-asks s p ++ drain-asks (length (p .waiting)) (act s p))
       ((ltb (length (p .waiting)) reader-statements, 10) ∷ []))
