@@ -1,12 +1,13 @@
 -- A message is as long as what it reads as.
 use Rattle.capture.specs.declared.message.Progress.{Progress as StatementView}
 use mathlib.Core.Path.{_∙_, _≡_, ap, sym}
-use mathlib.Core.Bool.{_&&_, false}
+use mathlib.Core.Bool.{Bool, _&&_, false, true}
 use mathlib.Core.List.{List, map}
 use Prim.Native.Nat.{_<_, _≤_, ℕ}
-use lib.Dec.{leb}
+use lib.Dec.{T, leb, leb→le}
 use lib.ListN.{length, length-map}
 use Rattle.std.proofs.shelf.Tests.{le-leb, lt-leb}
+use Rattle.lattice.proofs.Tests.{and-left, and-right, ≡true-T}
 use Rattle.capture.specs.Messages.{short-changes, short-statement}
 use Rattle.capture.specs.Views.{change-of, count-of, statement-of}
 
@@ -34,3 +35,13 @@ module _ {Y A : Type 0} (value : Y → A) (s : StatementView Y) where
   pub long-by-upper : length (s .lower .now) ≤ 32 → 32 < length (s .upper .now) → false ≡ short-statement (statement-of value s)
   long-by-upper h k =
       sym (short-statement-of ∙ ap (λ a. a && (leb (length (s .upper .now)) 32 && leb (length (s .counts .now)) 256)) (le-leb (length (s .lower .now)) 32 h) ∙ ap (λ a. a && leb (length (s .counts .now)) 256) (lt-leb (length (s .upper .now)) 32 k))
+
+  -- what a yes to question 2 tells of the lists
+  pub short-parts : (r : Bool) → r ≡ short-statement (statement-of value s) → r ≡ true → (length (s .lower .now) ≤ 32) × (length (s .upper .now) ≤ 32) × (length (s .counts .now) ≤ 256)
+  short-parts r e is =
+      let a = leb (length (s .lower .now)) 32 in
+      let b = leb (length (s .upper .now)) 32 in
+      let c = leb (length (s .counts .now)) 256 in
+      let h : T (a && (b && c)) = ≡true-T (a && (b && c)) (sym short-statement-of ∙ sym e ∙ is) in
+      let k : T (b && c) = and-right a (b && c) h in
+      (leb→le (length (s .lower .now)) 32 (and-left a (b && c) h), leb→le (length (s .upper .now)) 32 (and-left b c k), leb→le (length (s .counts .now)) 256 (and-right b c k))

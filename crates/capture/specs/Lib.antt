@@ -13,3 +13,4 @@ pub mod Law
 pub mod Views
 pub mod Deliveries
 pub mod Rows
+pub mod Stored

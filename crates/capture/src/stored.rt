@@ -1,0 +1,60 @@
+// Messages in stored form, one entry of a table to a message.
+//
+// Nothing about an entry is assumed: whatever it holds reads as some message that is not too long.
+ghost use mathlib.Core.Path.{_≡_};
+ghost use mathlib.Core.List.{List, [], _∷_};
+ghost use Rattle.questions.specs.Answers.{Answered};
+ghost use Rattle.capture.specs.Messages.{short, short-statement};
+ghost use Rattle.capture.specs.Views.{message-of, statement-of};
+ghost use Rattle.capture.specs.Stored.{stored-statement};
+use crate::message::MESSAGE_CHANGES;
+use crate::message::STATEMENT_COUNTS;
+use crate::message::STATEMENT_TIMES;
+use crate::Message;
+use crate::Progress;
+use crate::Row;
+use lattice::PartialOrder;
+use lattice::Same;
+use questions::Refusal;
+
+// The changes of a message, in stored form.
+pub type StoredUpdates<D, T, R> = Row<(D, T, R), MESSAGE_CHANGES>;
+
+// A statement in stored form.
+pub struct StoredProgress<T> {
+    // the lower list
+    lower: Row<T, STATEMENT_TIMES>,
+    // the upper list
+    upper: Row<T, STATEMENT_TIMES>,
+    // the counts
+    counts: Row<(T, u32), STATEMENT_COUNTS>,
+}
+
+impl<T: PartialOrder + Copy> StoredProgress<T> {
+    // A statement with empty lists.
+    pub fn new(filler: T) -> StoredProgress<T>
+        ensures { λ r. ⌜ stored-statement (T·PartialOrder .value) r ≡ record { lower = []; upper = []; counts = [] } ⌝ }
+    {
+        StoredProgress { lower: Row::new(filler), upper: Row::new(filler), counts: Row::new((filler, 0)) }
+    }
+
+    // The statement.
+    pub fn view(&self) -> Progress<'_, T>
+        ensures { λ r. ⌜ statement-of (T·PartialOrder .value) r ≡ stored-statement (T·PartialOrder .value) (now (self .entry)) ⌝ }
+    {
+        Progress { lower: self.lower.view(), upper: self.upper.view(), counts: self.counts.view() }
+    }
+
+    // Puts a statement in place of the one that is stored, where it is not too long.
+    pub fn store(&mut self, item: Progress<'_, T>) -> Result<(), Refusal>
+        ensures { λ r. ⌜ Answered r ((short-statement (statement-of (T·PartialOrder .value) (item .entry)), 2) ∷ []) (λ _. stored-statement (T·PartialOrder .value) (now (self .exit)) ≡ statement-of (T·PartialOrder .value) (item .entry)) (now (self .exit) ≡ now (self .entry)) ⌝ }
+    {
+        if !item.is_short() {
+            return Err(Refusal::LongMessage);
+        }
+        self.lower.fill(item.lower);
+        self.upper.fill(item.upper);
+        self.counts.fill(item.counts);
+        Ok(())
+    }
+}
