@@ -1,7 +1,7 @@
 -- A message is as long as what it reads as.
 use Rattle.capture.specs.declared.message.Progress.{Progress as StatementView}
 use mathlib.Core.Path.{_∙_, _≡_, ap, sym}
-use mathlib.Core.Bool.{Bool, _&&_, false, true}
+use mathlib.Core.Bool.{_&&_, false, true}
 use mathlib.Core.List.{List, map}
 use Prim.Native.Nat.{_<_, _≤_, ℕ}
 use lib.Dec.{T, leb, leb→le}
@@ -17,6 +17,9 @@ leb-map f xs n = ap (λ m. leb m n) (length-map xs f)
 module _ {X D Y A Z R : Type 0} (data-value : X → D) (time-value : Y → A) (amount-value : Z → R) where
   pub short-changes-of : (cs : List (X × Y × Z)) → leb (length cs) 64 ≡ short-changes (map (change-of data-value time-value amount-value) cs)
   short-changes-of cs = sym (leb-map (change-of data-value time-value amount-value) cs 64)
+
+  pub few-changes : (cs : List (X × Y × Z)) → short-changes (map (change-of data-value time-value amount-value) cs) ≡ true → length cs ≤ 64
+  few-changes cs e = leb→le (length cs) 64 (≡true-T (leb (length cs) 64) (short-changes-of cs ∙ e))
 
 module _ {Y A : Type 0} (value : Y → A) (s : StatementView Y) where
   short-statement-of : short-statement (statement-of value s) ≡ (leb (length (s .lower .now)) 32 && (leb (length (s .upper .now)) 32 && leb (length (s .counts .now)) 256))
@@ -37,11 +40,11 @@ module _ {Y A : Type 0} (value : Y → A) (s : StatementView Y) where
       sym (short-statement-of ∙ ap (λ a. a && (leb (length (s .upper .now)) 32 && leb (length (s .counts .now)) 256)) (le-leb (length (s .lower .now)) 32 h) ∙ ap (λ a. a && leb (length (s .counts .now)) 256) (lt-leb (length (s .upper .now)) 32 k))
 
   -- what a yes to question 2 tells of the lists
-  pub short-parts : (r : Bool) → r ≡ short-statement (statement-of value s) → r ≡ true → (length (s .lower .now) ≤ 32) × (length (s .upper .now) ≤ 32) × (length (s .counts .now) ≤ 256)
-  short-parts r e is =
+  pub short-parts : short-statement (statement-of value s) ≡ true → (length (s .lower .now) ≤ 32) × (length (s .upper .now) ≤ 32) × (length (s .counts .now) ≤ 256)
+  short-parts e =
       let a = leb (length (s .lower .now)) 32 in
       let b = leb (length (s .upper .now)) 32 in
       let c = leb (length (s .counts .now)) 256 in
-      let h : T (a && (b && c)) = ≡true-T (a && (b && c)) (sym short-statement-of ∙ sym e ∙ is) in
+      let h : T (a && (b && c)) = ≡true-T (a && (b && c)) (sym short-statement-of ∙ e) in
       let k : T (b && c) = and-right a (b && c) h in
       (leb→le (length (s .lower .now)) 32 (and-left a (b && c) h), leb→le (length (s .upper .now)) 32 (and-left b c k), leb→le (length (s .counts .now)) 256 (and-right b c k))

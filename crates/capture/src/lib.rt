@@ -16,6 +16,7 @@ pub use message::MESSAGE_CHANGES;
 pub use message::STATEMENT_COUNTS;
 pub use message::STATEMENT_TIMES;
 pub use row::Row;
+pub use stored::StoredMessage;
 pub use stored::StoredProgress;
 pub use stored::StoredUpdates;
 pub use writer::Writer;

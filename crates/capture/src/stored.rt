@@ -2,11 +2,12 @@
 //
 // Nothing about an entry is assumed: whatever it holds reads as some message that is not too long.
 ghost use mathlib.Core.Path.{_≡_};
+ghost use mathlib.Core.Bool.{true};
 ghost use mathlib.Core.List.{List, [], _∷_};
 ghost use Rattle.questions.specs.Answers.{Answered};
-ghost use Rattle.capture.specs.Messages.{short, short-statement};
+ghost use Rattle.capture.specs.Messages.{changes, short, short-statement};
 ghost use Rattle.capture.specs.Views.{message-of, statement-of};
-ghost use Rattle.capture.specs.Stored.{stored-statement};
+ghost use Rattle.capture.specs.Stored.{stored-statement, stored-message};
 use crate::message::MESSAGE_CHANGES;
 use crate::message::STATEMENT_COUNTS;
 use crate::message::STATEMENT_TIMES;
@@ -45,6 +46,16 @@ impl<T: PartialOrder + Copy> StoredProgress<T> {
         Progress { lower: self.lower.view(), upper: self.upper.view(), counts: self.counts.view() }
     }
 
+    // Puts a statement that is not too long in place of the one that is stored.
+    pub(crate) fn fill(&mut self, item: Progress<'_, T>)
+        requires { ⌜ short-statement (statement-of (T·PartialOrder .value) item) ≡ true ⌝ }
+        ensures { λ _. ⌜ stored-statement (T·PartialOrder .value) (now (self .exit)) ≡ statement-of (T·PartialOrder .value) (item .entry) ⌝ }
+    {
+        self.lower.fill(item.lower);
+        self.upper.fill(item.upper);
+        self.counts.fill(item.counts);
+    }
+
     // Puts a statement in place of the one that is stored, where it is not too long.
     pub fn store(&mut self, item: Progress<'_, T>) -> Result<(), Refusal>
         ensures { λ r. ⌜ Answered r ((short-statement (statement-of (T·PartialOrder .value) (item .entry)), 2) ∷ []) (λ _. stored-statement (T·PartialOrder .value) (now (self .exit)) ≡ statement-of (T·PartialOrder .value) (item .entry)) (now (self .exit) ≡ now (self .entry)) ⌝ }
@@ -52,9 +63,57 @@ impl<T: PartialOrder + Copy> StoredProgress<T> {
         if !item.is_short() {
             return Err(Refusal::LongMessage);
         }
-        self.lower.fill(item.lower);
-        self.upper.fill(item.upper);
-        self.counts.fill(item.counts);
+        self.fill(item);
+        Ok(())
+    }
+}
+
+// A message of either sort in stored form.
+pub struct StoredMessage<D, T, R> {
+    // whether it is a statement; what the part for the other sort holds is left from before
+    stated: bool,
+    // the changes
+    updates: StoredUpdates<D, T, R>,
+    // the statement
+    progress: StoredProgress<T>,
+}
+
+impl<D: Same + Copy, T: PartialOrder + Copy, R: Same + Copy> StoredMessage<D, T, R> {
+    // A message without changes.
+    pub fn new(filler: (D, T, R)) -> StoredMessage<D, T, R>
+        ensures { λ r. ⌜ stored-message (D·Same .value) (T·PartialOrder .value) (R·Same .value) r ≡ changes [] ⌝ }
+    {
+        StoredMessage { stated: false, updates: Row::new(filler), progress: StoredProgress::new(filler.1) }
+    }
+
+    // The message.
+    pub fn view(&self) -> Message<'_, D, T, R>
+        ensures { λ r. ⌜ message-of (D·Same .value) (T·PartialOrder .value) (R·Same .value) r ≡ stored-message (D·Same .value) (T·PartialOrder .value) (R·Same .value) (now (self .entry)) ⌝ }
+    {
+        if self.stated {
+            Message::Progress(self.progress.view())
+        } else {
+            Message::Updates(self.updates.view())
+        }
+    }
+
+    // Puts a message in place of the one that is stored, where it is not too long.
+    pub fn store(&mut self, item: Message<'_, D, T, R>) -> Result<(), Refusal>
+        ensures { λ r. ⌜ Answered r ((short (message-of (D·Same .value) (T·PartialOrder .value) (R·Same .value) (item .entry)), 2) ∷ []) (λ _. stored-message (D·Same .value) (T·PartialOrder .value) (R·Same .value) (now (self .exit)) ≡ message-of (D·Same .value) (T·PartialOrder .value) (R·Same .value) (item .entry)) (now (self .exit) ≡ now (self .entry)) ⌝ }
+    {
+        if !item.is_short() {
+            return Err(Refusal::LongMessage);
+        }
+        match item {
+            Message::Updates(changes) => {
+                self.updates.fill(changes);
+                self.stated = false;
+            }
+            Message::Progress(statement) => {
+                self.progress.fill(statement);
+                self.stated = true;
+            }
+        }
         Ok(())
     }
 }
