@@ -14,3 +14,4 @@ pub mod Views
 pub mod Deliveries
 pub mod Rows
 pub mod Stored
+pub mod Sample
