@@ -1,11 +1,9 @@
 // Lists in stored form: a row of places, the first of them in use.
 ghost use mathlib.Core.Path.{_≡_};
-ghost use mathlib.Core.List.{List, [], _∷_};
+ghost use mathlib.Core.List.{[]};
 ghost use Prim.Native.Nat.{_≤_};
-ghost use lib.Dec.{leb};
 ghost use lib.ListN.{length};
-ghost use Rattle.questions.specs.Answers.{Answered};
-ghost use Rattle.capture.specs.Rows.{row};
+ghost use Rattle.capture.specs.Rows.{Stores, has-places, row};
 use questions::Refusal;
 
 // A list of at most N values, as it lies in an entry of a table.
@@ -15,6 +13,8 @@ pub struct Row<X, const N: usize> {
     // how many are in use; a number over N reads as N
     len: usize,
 }
+
+impl<X: Copy, const N: usize> Copy for Row<X, N> {}
 
 impl<X: Copy, const N: usize> Row<X, N> {
     // A row with nothing in use.
@@ -46,7 +46,7 @@ impl<X: Copy, const N: usize> Row<X, N> {
 
     // Puts a list in place of the values, where it is not too long.
     pub fn store(&mut self, from: &[X]) -> Result<(), Refusal>
-        ensures { λ r. ⌜ Answered r ((leb (length (now (from .entry))) N, 2) ∷ []) (λ _. row (now (self .exit)) ≡ now (from .entry)) (now (self .exit) ≡ now (self .entry)) ⌝ }
+        ensures { λ r. ⌜ Stores row (has-places N) r (now (self .entry)) (now (self .exit)) (now (from .entry)) ⌝ }
     {
         if N < from.len() {
             return Err(Refusal::LongMessage);

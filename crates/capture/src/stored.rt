@@ -3,10 +3,10 @@
 // Nothing about an entry is assumed: whatever it holds reads as some message that is not too long.
 ghost use mathlib.Core.Path.{_≡_};
 ghost use mathlib.Core.Bool.{true};
-ghost use mathlib.Core.List.{List, [], _∷_};
-ghost use Rattle.questions.specs.Answers.{Answered};
+ghost use mathlib.Core.List.{[]};
 ghost use Rattle.capture.specs.Messages.{changes, short, short-statement};
 ghost use Rattle.capture.specs.Views.{message-of, statement-of};
+ghost use Rattle.capture.specs.Rows.{Stores};
 ghost use Rattle.capture.specs.Stored.{stored-statement, stored-message};
 use crate::message::MESSAGE_CHANGES;
 use crate::message::STATEMENT_COUNTS;
@@ -30,6 +30,8 @@ pub struct StoredProgress<T> {
     // the counts
     counts: Row<(T, u32), STATEMENT_COUNTS>,
 }
+
+impl<T: Copy> Copy for StoredProgress<T> {}
 
 impl<T: PartialOrder + Copy> StoredProgress<T> {
     // A statement with empty lists.
@@ -58,7 +60,7 @@ impl<T: PartialOrder + Copy> StoredProgress<T> {
 
     // Puts a statement in place of the one that is stored, where it is not too long.
     pub fn store(&mut self, item: Progress<'_, T>) -> Result<(), Refusal>
-        ensures { λ r. ⌜ Answered r ((short-statement (statement-of (T·PartialOrder .value) (item .entry)), 2) ∷ []) (λ _. stored-statement (T·PartialOrder .value) (now (self .exit)) ≡ statement-of (T·PartialOrder .value) (item .entry)) (now (self .exit) ≡ now (self .entry)) ⌝ }
+        ensures { λ r. ⌜ Stores (stored-statement (T·PartialOrder .value)) short-statement r (now (self .entry)) (now (self .exit)) (statement-of (T·PartialOrder .value) (item .entry)) ⌝ }
     {
         if !item.is_short() {
             return Err(Refusal::LongMessage);
@@ -77,6 +79,8 @@ pub struct StoredMessage<D, T, R> {
     // the statement
     progress: StoredProgress<T>,
 }
+
+impl<D: Copy, T: Copy, R: Copy> Copy for StoredMessage<D, T, R> {}
 
 impl<D: Same + Copy, T: PartialOrder + Copy, R: Same + Copy> StoredMessage<D, T, R> {
     // A message without changes.
@@ -99,7 +103,7 @@ impl<D: Same + Copy, T: PartialOrder + Copy, R: Same + Copy> StoredMessage<D, T,
 
     // Puts a message in place of the one that is stored, where it is not too long.
     pub fn store(&mut self, item: Message<'_, D, T, R>) -> Result<(), Refusal>
-        ensures { λ r. ⌜ Answered r ((short (message-of (D·Same .value) (T·PartialOrder .value) (R·Same .value) (item .entry)), 2) ∷ []) (λ _. stored-message (D·Same .value) (T·PartialOrder .value) (R·Same .value) (now (self .exit)) ≡ message-of (D·Same .value) (T·PartialOrder .value) (R·Same .value) (item .entry)) (now (self .exit) ≡ now (self .entry)) ⌝ }
+        ensures { λ r. ⌜ Stores (stored-message (D·Same .value) (T·PartialOrder .value) (R·Same .value)) short r (now (self .entry)) (now (self .exit)) (message-of (D·Same .value) (T·PartialOrder .value) (R·Same .value) (item .entry)) ⌝ }
     {
         if !item.is_short() {
             return Err(Refusal::LongMessage);
