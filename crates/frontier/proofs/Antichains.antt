@@ -6,7 +6,7 @@ use mathlib.Core.List.{List, [], _∷_, _++_, map}
 use lib.Dec.{T}
 use Rattle.lattice.specs.Orders.{Order, Joins, at-once}
 use Rattle.lattice.proofs.Tests.{or-left, or-right, or-cases, and-intro, and-left, and-right, not-both, not-not, not-from, by-cases, not-or-left, not-or-right, not-or, cond-both, cond-true, cond-false, iff-≡, T-along, T-back}
-use Rattle.frontier.specs.Frontiers.{beyond, leq, without, inserted, inserted-all, holds, within, equal, Apart, Antichain}
+use Rattle.frontier.specs.Frontiers.{beyond, leq, without, inserted, inserted-all, meet, pairwise, join, holds, within, equal, Apart, Antichain}
 use Rattle.frontier.proofs.Beyond.{below-refl, below-trans, below-antisym, leq-from, leq-beyond}
 
 module _ {A : Type 0} {below : A → A → Bool} (order : Order below) where
@@ -132,3 +132,17 @@ module _ {A : Type 0} {below : A → A → Bool} (order : Order below) where
   pub antichain-inserted-all : (es xs : List A) → Antichain below es → Antichain below (inserted-all below es xs)
   antichain-inserted-all es [] a = a
   antichain-inserted-all es (x ∷ xs) a = antichain-inserted-all (inserted below es x) xs (antichain-inserted es x a)
+
+  -- two frontiers are equal exactly when each is at or before the other
+  pub equal-by-order : (xs ys : List A) → Antichain below xs → Antichain below ys → equal below xs ys ≡ (leq below xs ys && leq below ys xs)
+  equal-by-order xs ys a b =
+      iff-≡ (equal below xs ys) (leq below xs ys && leq below ys xs)
+      (λ h. and-intro (leq below xs ys) (leq below ys xs) (equal-leq xs ys h) (equal-geq xs ys h))
+      (λ h. equal-from xs ys a b (and-left (leq below xs ys) (leq below ys xs) h) (and-right (leq below xs ys) (leq below ys xs) h))
+
+  -- joins and meets of any lists are frontiers
+  pub antichain-meet : (xs ys : List A) → Antichain below (meet below xs ys)
+  antichain-meet xs ys = antichain-inserted-all [] (xs ++ ys) tt
+
+  pub antichain-join : (joined : A → A → A) (xs ys : List A) → Antichain below (join below joined xs ys)
+  antichain-join joined xs ys = antichain-inserted-all [] (pairwise joined xs ys) tt

@@ -1,5 +1,5 @@
 -- Counts that belong to times: a list with an entry for each time whose count is not 0.
-use mathlib.Core.Bool.{Bool, true, false, cond, _&&_}
+use mathlib.Core.Bool.{Bool, true, false, cond, not, _&&_}
 use mathlib.Core.List.{List, [], _∷_, _++_}
 use Prim.Native.Nat.{ℕ, zero, suc}
 use lib.Dec.{leb}
@@ -34,6 +34,10 @@ positives [] = []
 positives (e ∷ es) = cond (positive (e .1)) (e .0 ∷ positives es) (positives es)
 
 module _ {A : Type 0} (below : A → A → Bool) where
+  -- an entry of another time than x
+  abbrev pub other : A → (A × ℤ) → Bool
+  other x e = not (at-once below (e .0) x)
+
   -- z added to the count of x: a new entry goes last, and what stays keeps its order
   abbrev pub added : List (A × ℤ) → A → ℤ → List (A × ℤ)
   added [] x z = entry x z

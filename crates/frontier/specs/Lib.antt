@@ -1,3 +1,4 @@
 pub mod Frontiers
 pub mod Counts
 pub mod Tables
+pub mod Laws

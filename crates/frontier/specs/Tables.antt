@@ -1,7 +1,7 @@
 -- Lent tables: the first entries of a slice are in use, and read as a list of values.
 use mathlib.Core.Path.{_≡_}
 use mathlib.Core.Bool.{Bool, _&&_}
-use mathlib.Core.List.{List, map}
+use mathlib.Core.List.{List, [], _∷_, map}
 use Prim.Native.Nat.{ℕ}
 use lib.Dec.{leb}
 use lib.IntN.{ℤ}
@@ -26,3 +26,11 @@ sized size used n = leb used size && leb size n
 -- an entry of a table of counts, by the time's value
 abbrev pub counted : {X A : Type 0} → (X → A) → (X × ℤ) → (A × ℤ)
 counted value e = (value (e .0), e .1)
+
+-- what a call on a table of n entries asks: that it is at least its size (1), and that what it comes to hold fits, by the number of that question
+abbrev pub table-asks : ℕ → ℕ → ℕ → ℕ → Bool → List (Bool × ℕ)
+table-asks size number n used few = (sized size used n, 1) ∷ (few, number) ∷ []
+
+-- a frontier's table: at most 32 times after each insert (12)
+abbrev pub frontier-asks : ℕ → ℕ → Bool → List (Bool × ℕ)
+frontier-asks n used few = table-asks frontier-size 12 n used few

@@ -1,0 +1,21 @@
+use mathlib.Core.Path.{refl, sym, _∙_}
+use mathlib.Core.List.{map}
+use Rattle.lattice.specs.Orders.{at-once}
+use Rattle.frontier.specs.Frontiers.{holds}
+use Rattle.frontier.proofs.Walks.{any-here, any-past, walked}
+use Rattle.frontier.proofs.lists.is_in.Needs as need
+
+pub returns-then-same-time : need.returns-then-same-time
+returns-then-same-time g c =
+    let o = g .T·PartialOrder in
+    sym (any-here (o .value) (c .args .list .now) (c .loop-e .e-index) (c .e-item .result) (c .loop-e-test .taken) (c .e-item .is) (λ ys. holds (o .below) ys (o .value (c .args .time .now))) (λ e. at-once (o .below) e (o .value (c .args .time .now))) (λ _ _. refl) (sym (c .same-time .ensures .value) ∙ c .if-same-time .taken)) ∙ c .loop-e .inv
+
+pub loop-e-again : need.loop-e-again
+loop-e-again g c =
+    let o = g .T·PartialOrder in
+    sym (any-past (o .value) (c .args .list .now) (c .loop-e .e-index) (c .e-item .result) (c .loop-e-test .taken) (c .e-item .is) (λ ys. holds (o .below) ys (o .value (c .args .time .now))) (λ e. at-once (o .below) e (o .value (c .args .time .now))) (λ _ _. refl) (sym (c .same-time .ensures .value) ∙ c .if-same-time .left)) ∙ c .loop-e .inv
+
+pub returns : need.returns
+returns g c =
+    let o = g .T·PartialOrder in
+    sym (walked (o .value) (c .args .list .now) (c .loop-e .e-index) (λ ys. holds (o .below) ys (o .value (c .args .time .now))) (c .loop-e-test .left)) ∙ c .loop-e .inv

@@ -1,0 +1,4 @@
+pub mod Times
+pub mod Input
+pub mod Reading
+pub mod Comparing

@@ -1,0 +1,4 @@
+pub mod Readings
+pub mod Weeks
+pub mod Lessons
+pub mod Choices
