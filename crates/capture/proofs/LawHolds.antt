@@ -169,7 +169,15 @@ module _ {D A R P Q : Type 0} {K : Kinds D A R} (ok : Lawful K) (p : Post D A R 
     meanwhile-by : (a : P) (b : Q) → p .taken a ≡ p .taken (w .changes-post) → q .taken b ≡ q .taken (w .statements-post) → Kept ks (with-posts w a b)
     meanwhile-by a b ea eb =
         record {
-          ss = s .ss; stated = ap (λ l. l ++ w .sender .queued-statements) eb ∙ s .stated; chain = s .chain; apart = s .apart; stands = s .stands; clean = s .clean; counted = s .counted; small = s .small; says = s .says;
+          ss = s .ss;
+          stated = ap (λ l. l ++ w .sender .queued-statements) eb ∙ s .stated;
+          chain = s .chain;
+          apart = s .apart;
+          stands = s .stands;
+          clean = s .clean;
+          counted = s .counted;
+          small = s .small;
+          says = s .says;
           valid = λ m i. s .valid m (in-along (ap (λ l. l ++ w .sender .queued-changes) ea) i);
           fine = s .fine;
         }
@@ -182,7 +190,16 @@ module _ {D A R P Q : Type 0} {K : Kinds D A R} (ok : Lawful K) (p : Post D A R 
     reads c i x y rs τ er ea eo es here =
         subst (λ l. Invariant K p q l (λ j. all-accepted j (c ∷ ks)) (λ j. given-out j (c ∷ ks)) (λ j. is-settled j (c ∷ ks)) (with-readers w rs)) (none-more rec ∙ ap (λ l. rec ++ l) (sym er))
         (record {
-          ss = s .ss; stated = s .stated; chain = s .chain; apart = s .apart; stands = s .stands; clean = s .clean; counted = s .counted; small = s .small; says = s .says; valid = s .valid;
+          ss = s .ss;
+          stated = s .stated;
+          chain = s .chain;
+          apart = s .apart;
+          stands = s .stands;
+          clean = s .clean;
+          counted = s .counted;
+          small = s .small;
+          says = s .says;
+          valid = s .valid;
           fine = λ j z a. ⊎-elim
               (λ h. subst (λ v. FineBy (c ∷ ks) rec (s .ss) top j v) (sym (h .1)) (subst (λ n. FineBy (c ∷ ks) rec (s .ss) top n y) (sym (h .0)) (here (s .fine i x (turned-at τ)))))
               (λ h. restate rec (s .ss) top z (ea j (h .0)) (eo j (h .0)) (es j (h .0)) (s .fine j z (h .1)))

@@ -15,7 +15,7 @@ use Rattle.frontier.proofs.Antichains.{antichain-inserted-all}
 use Rattle.frontier.proofs.Beyond.{leq-from, leq-refl}
 use Rattle.frontier.specs.Counts.{added-all, positives}
 use Rattle.frontier.specs.Frontiers.{Antichain, beyond, leq}
-use Rattle.capture.specs.Answers.{Answer, brings, is-accepted, table-asks}
+use Rattle.capture.specs.Answers.{Answer, brings, is-accepted, only-tables}
 use Rattle.capture.specs.Kinds.{Kinds, Time}
 use Rattle.capture.specs.Messages.{Change, Message, Statement, changes, fresh, has, statement, those-beyond}
 use Rattle.capture.specs.Prompt.{Prompt, brought-in, heed, note, note-asks, settle, settle-asks, shipped, sift, sift-asks}
@@ -243,7 +243,7 @@ module _ {D A R : Type 0} {K : Kinds D A R} (ok : Lawful K) where
 
     pub prompt-heeds : (tables : Bool) (ms : List (Message D A R)) (out : List (Change D A R)) (set : Bool) (h : Prompt D A R) → PromptFine K rec ss top ms out set h → PromptFine K rec ss top ms out set (heed K tables h .1)
     prompt-heeds tables ms out set h f =
-        answer-cases (λ a. PromptFine K rec ss top ms out set (a .1)) (table-asks tables) h
+        answer-cases (λ a. PromptFine K rec ss top ms out set (a .1)) (only-tables tables) h
         (tt, record { progress = h .progress; reported = h .reported; heeded = h .reported; pending = those-beyond below (h .reported) (h .pending); waiting-counts = h .waiting-counts })
         (λ n. f) (λ _. heeds-by ms out set h f)
 
@@ -269,6 +269,6 @@ module _ {D A R : Type 0} {K : Kinds D A R} (ok : Lawful K) where
 
   pub heed-still : (tables : Bool) (h : Prompt D A R) → heed K tables h .1 .reported ≡ h .reported
   heed-still tables h =
-      answer-cases (λ a. a .1 .reported ≡ h .reported) (table-asks tables) h
+      answer-cases (λ a. a .1 .reported ≡ h .reported) (only-tables tables) h
       (tt, record { progress = h .progress; reported = h .reported; heeded = h .reported; pending = those-beyond below (h .reported) (h .pending); waiting-counts = h .waiting-counts })
       (λ n. refl) (λ _. refl)

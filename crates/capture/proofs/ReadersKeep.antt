@@ -13,7 +13,7 @@ use Rattle.lattice.specs.Orders.{Joins, Order}
 use Rattle.frontier.proofs.Antichains.{antichain-one}
 use Rattle.frontier.proofs.Beyond.{leq-beyond}
 use Rattle.frontier.specs.Frontiers.{beyond, leq}
-use Rattle.capture.specs.Answers.{table-asks}
+use Rattle.capture.specs.Answers.{only-tables}
 use Rattle.capture.specs.Held.{fresh-held}
 use Rattle.capture.specs.Kinds.{Kinds, Time}
 use Rattle.capture.specs.Messages.{Change, Message, Statement, has}
@@ -166,7 +166,7 @@ module _ {D A R : Type 0} {K : Kinds D A R} (ok : Lawful K) where
   fine-moved rec ss s on strict new ms out set (away h) f = prompt-moved rec ss s on strict new ms out set h f
 
   pub fine-put-away : (tables : Bool) (rec : List (Change D A R)) (ss : List (Statement A)) (top : List A) (ms : List (Message D A R)) (out : List (Change D A R)) (set : Bool) (h : Prompt D A R) → PromptFine K rec ss top ms out set h → Fine K rec ss top ms out set (put-away tables h .1)
-  fine-put-away tables rec ss top ms out set h f = answer-cases (λ a. Fine K rec ss top ms out set (a .1)) (table-asks tables) (prompt h) (length (h .pending), away h) (λ n. f) (λ _. f)
+  fine-put-away tables rec ss top ms out set h f = answer-cases (λ a. Fine K rec ss top ms out set (a .1)) (only-tables tables) (prompt h) (length (h .pending), away h) (λ n. f) (λ _. f)
 
   pub put-away-still : (tables : Bool) (h : Prompt D A R) → stands-at (put-away tables h .1) ≡ h .reported
-  put-away-still tables h = answer-cases (λ a. stands-at (a .1) ≡ h .reported) (table-asks tables) (prompt h) (length (h .pending), away h) (λ n. refl) (λ _. refl)
+  put-away-still tables h = answer-cases (λ a. stands-at (a .1) ≡ h .reported) (only-tables tables) (prompt h) (length (h .pending), away h) (λ n. refl) (λ _. refl)

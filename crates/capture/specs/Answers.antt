@@ -25,5 +25,5 @@ abbrev pub answer : {X S : Type 0} → List (Bool × ℕ) → S → X × S → A
 answer asks s made = elim (first-no asks) [ Some n ↦ (refused n, s) | None ↦ (accepted (made .0), made .1) ]
 
 -- what every call asks first: whether each table is at least its size
-abbrev pub table-asks : Bool → List (Bool × ℕ)
-table-asks tables = (tables, 1) ∷ []
+abbrev pub only-tables : Bool → List (Bool × ℕ)
+only-tables tables = (tables, 1) ∷ []

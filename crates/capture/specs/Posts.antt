@@ -7,7 +7,7 @@ use Rattle.std.specs.declared.option.Option.{Option}
 use Rattle.std.specs.declared.option.Option.the-variants.{Some, None}
 use Rattle.questions.specs.Questions.{first-no}
 use Rattle.capture.specs.Messages.{Message}
-use Rattle.capture.specs.Answers.{Answer, refused, accepted, table-asks}
+use Rattle.capture.specs.Answers.{Answer, refused, accepted, only-tables}
 
 -- what a kind of post shows of its posts
 pub record Post (D A R P : Type 0) : Type 0 where
@@ -31,8 +31,8 @@ module _ {D A R P : Type 0} (o : Post D A R P) where
 
   -- the call of a pump: it is refused and leaves all as it was, or it pumps and tells whether work remains, and the wait
   pub data Pump (tables : Bool) : List (Message D A R) → P → Answer (Bool × Option ℕ) → List (Message D A R) → P → Type 0 where
-    refuses : {ms : List (Message D A R)} {p : P} {n : ℕ} → first-no (table-asks tables) ≡ Some n → Pump tables ms p (refused n) ms p
-    pumps : {ms ns : List (Message D A R)} {p q : P} {work : Bool} {wait : Option ℕ} → first-no (table-asks tables) ≡ None → Pumped ms p work wait ns q → Pump tables ms p (accepted (work, wait)) ns q
+    refuses : {ms : List (Message D A R)} {p : P} {n : ℕ} → first-no (only-tables tables) ≡ Some n → Pump tables ms p (refused n) ms p
+    pumps : {ms ns : List (Message D A R)} {p q : P} {work : Bool} {wait : Option ℕ} → first-no (only-tables tables) ≡ None → Pumped ms p work wait ns q → Pump tables ms p (accepted (work, wait)) ns q
 
 module _ {M : Type 0} where
   -- what an offer of the message m comes to: taken exactly where the post is ready for it, and then it stands last; else a wait

@@ -10,7 +10,7 @@ use Rattle.frontier.specs.Counts.{added-all, room}
 use Rattle.capture.specs.Kinds.{Kinds}
 use Rattle.capture.specs.Sizes.{reader-changes, reader-counts}
 use Rattle.capture.specs.Messages.{Change, Statement, short-changes, coincide, fresh, those-beyond}
-use Rattle.capture.specs.Answers.{Answer, answer, table-asks}
+use Rattle.capture.specs.Answers.{Answer, answer, only-tables}
 use Rattle.capture.specs.Statements.{Progress, fresh-progress, lowered, advanced, statement-asks, lower-edge, edge-fits}
 
 pub record Prompt (D A R : Type 0) : Type 0 where
@@ -79,7 +79,7 @@ module _ {D A R : Type 0} (k : Kinds D A R) where
   -- heed makes the reported frontier the heeded one, and forgets the pending changes behind it
   abbrev pub heed : Bool → Prompt D A R → Answer (Unit {0}) × Prompt D A R
   heed tables p =
-      answer (table-asks tables) p
+      answer (only-tables tables) p
       (tt, record { progress = p .progress; reported = p .reported; heeded = p .reported; pending = those-beyond (k .time .below) (p .reported) (p .pending); waiting-counts = p .waiting-counts })
 
   -- a prompt reader that got nothing yet

@@ -4,7 +4,7 @@ use mathlib.Core.List.{List}
 use Prim.Native.Nat.{ℕ}
 use lib.ListN.{length}
 use Rattle.capture.specs.Kinds.{Kinds}
-use Rattle.capture.specs.Answers.{Answer, answer, table-asks}
+use Rattle.capture.specs.Answers.{Answer, answer, only-tables}
 use Rattle.capture.specs.Held.{Held, fresh-held}
 use Rattle.capture.specs.Prompt.{Prompt, fresh-prompt}
 
@@ -16,7 +16,7 @@ pub data Reader (D A R : Type 0) : Type 0 where
 
 -- putting away ends a prompt reader, and tells how many changes are pending
 abbrev pub put-away : {D A R : Type 0} → Bool → Prompt D A R → Answer ℕ × Reader D A R
-put-away tables p = answer (table-asks tables) (prompt p) (length (p .pending), away p)
+put-away tables p = answer (only-tables tables) (prompt p) (length (p .pending), away p)
 
 -- the reader's frontier: what it reported last
 abbrev pub stands-at : {D A R : Type 0} → Reader D A R → List A

@@ -51,6 +51,8 @@ impl<'a, T: PartialOrder> Progress<'a, T> {
     pub fn is_short(self) -> bool
         ensures { λ r. ⌜ r ≡ short-statement (statement-of (T·PartialOrder .value) (self .entry)) ⌝ }
     {
-        self.lower.len() <= STATEMENT_TIMES && self.upper.len() <= STATEMENT_TIMES && self.counts.len() <= STATEMENT_COUNTS
+        self.lower.len() <= STATEMENT_TIMES
+            && self.upper.len() <= STATEMENT_TIMES
+            && self.counts.len() <= STATEMENT_COUNTS
     }
 }

@@ -21,7 +21,10 @@ impl<X: Copy, const N: usize> Row<X, N> {
     pub fn new(filler: X) -> Row<X, N>
         ensures { λ r. ⌜ row r ≡ [] ⌝ }
     {
-        Row { items: [filler; N], len: 0 }
+        Row {
+            items: [filler; N],
+            len: 0,
+        }
     }
 
     // The values in use.

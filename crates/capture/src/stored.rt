@@ -8,12 +8,12 @@ ghost use Rattle.capture.specs.Messages.{changes, short, short-statement};
 ghost use Rattle.capture.specs.Views.{message-of, statement-of};
 ghost use Rattle.capture.specs.Rows.{Stores};
 ghost use Rattle.capture.specs.Stored.{stored-statement, stored-message};
-use crate::message::MESSAGE_CHANGES;
-use crate::message::STATEMENT_COUNTS;
-use crate::message::STATEMENT_TIMES;
 use crate::Message;
 use crate::Progress;
 use crate::Row;
+use crate::message::MESSAGE_CHANGES;
+use crate::message::STATEMENT_COUNTS;
+use crate::message::STATEMENT_TIMES;
 use lattice::PartialOrder;
 use lattice::Same;
 use questions::Refusal;
@@ -38,14 +38,22 @@ impl<T: PartialOrder + Copy> StoredProgress<T> {
     pub fn new(filler: T) -> StoredProgress<T>
         ensures { λ r. ⌜ stored-statement (T·PartialOrder .value) r ≡ record { lower = []; upper = []; counts = [] } ⌝ }
     {
-        StoredProgress { lower: Row::new(filler), upper: Row::new(filler), counts: Row::new((filler, 0)) }
+        StoredProgress {
+            lower: Row::new(filler),
+            upper: Row::new(filler),
+            counts: Row::new((filler, 0)),
+        }
     }
 
     // The statement.
     pub fn view(&self) -> Progress<'_, T>
         ensures { λ r. ⌜ statement-of (T·PartialOrder .value) r ≡ stored-statement (T·PartialOrder .value) (now (self .entry)) ⌝ }
     {
-        Progress { lower: self.lower.view(), upper: self.upper.view(), counts: self.counts.view() }
+        Progress {
+            lower: self.lower.view(),
+            upper: self.upper.view(),
+            counts: self.counts.view(),
+        }
     }
 
     // Puts a statement that is not too long in place of the one that is stored.
@@ -87,7 +95,11 @@ impl<D: Same + Copy, T: PartialOrder + Copy, R: Same + Copy> StoredMessage<D, T,
     pub fn new(filler: (D, T, R)) -> StoredMessage<D, T, R>
         ensures { λ r. ⌜ stored-message (D·Same .value) (T·PartialOrder .value) (R·Same .value) r ≡ changes [] ⌝ }
     {
-        StoredMessage { stated: false, updates: Row::new(filler), progress: StoredProgress::new(filler.1) }
+        StoredMessage {
+            stated: false,
+            updates: Row::new(filler),
+            progress: StoredProgress::new(filler.1),
+        }
     }
 
     // The message.
