@@ -16,7 +16,7 @@ use Rattle.lines.specs.Cuts.{with-byte, cut-at}
 use Rattle.frontiers.specs.declared.input.Expected.{Expected}
 use Rattle.frontiers.specs.declared.input.Expected.the-variants.{End}
 use Rattle.frontiers.specs.declared.fault.Fault.{Fault}
-use Rattle.frontiers.specs.declared.fault.Fault.the-variants.{Malformed, Memory}
+use Rattle.frontiers.specs.declared.fault.Fault.the-variants.{Malformed, Refused, Memory}
 use Rattle.frontiers.specs.Input.{Told, read-from, split-from, ended, says-from}
 use Rattle.frontiers.specs.Reading.{Faulty}
 
@@ -72,6 +72,7 @@ module _ (l : Told) (rest line behind : List ℕ) (found : cut-at 10 rest ≡ So
   -- a line that was not
   pub line-faulty : (f : Fault) → Faulty f (read-from l (line ∷ split-from [] behind .0)) → Faulty f (says-from l rest)
   line-faulty (Malformed n x) e = opened ∙ ap (closed (split-from [] behind .1)) e
+  line-faulty (Refused q) e = e
   line-faulty Memory e = tt
 
 -- no line is left

@@ -8,7 +8,7 @@ use Rattle.std.specs.declared.result.Result.the-variants.{Err}
 use Rattle.frontiers.specs.declared.input.Expected.{Expected}
 use Rattle.frontiers.specs.declared.reading.Input.{Input}
 use Rattle.frontiers.specs.declared.fault.Fault.{Fault}
-use Rattle.frontiers.specs.declared.fault.Fault.the-variants.{Malformed, Memory}
+use Rattle.frontiers.specs.declared.fault.Fault.the-variants.{Malformed, Refused, Memory}
 use Rattle.frontiers.specs.Times.{time-value}
 use Rattle.frontiers.specs.Input.{Told}
 
@@ -16,7 +16,8 @@ use Rattle.frontiers.specs.Input.{Told}
 abbrev pub told : Input → Told
 told i = (map time-value (vec-items (i .first)), map time-value (vec-items (i .second)), i .lines)
 
--- a fault names the malformed line; want of memory says nothing of the input
+-- a fault in reading names the malformed line; want of memory says nothing of the input, and reading refuses nothing
 abbrev pub Faulty : Fault → Result Told (ℕ × Expected) → Type 0
 Faulty (Malformed n e) r = r ≡ Err (n, e)
+Faulty (Refused q) r = ⊥
 Faulty Memory r = Unit {0}

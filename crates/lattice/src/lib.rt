@@ -9,18 +9,19 @@ ghost use Rattle.std.specs.Orderings.{Decides};
 ghost use Rattle.lattice.specs.Orders.{Order, Joins, Meets, Starts, at-once};
 ghost use Rattle.lattice.specs.Sameness.{Exact};
 
-mod numbers;
 mod product;
+mod rounds;
+mod signed;
 
-pub use numbers::RoundLattice;
-pub use numbers::RoundOrder;
-pub use numbers::RoundTimestamp;
-pub use numbers::SignedSame;
-pub use numbers::UnsignedSame;
 pub use product::Product;
 pub use product::ProductLattice;
 pub use product::ProductOrder;
 pub use product::ProductTimestamp;
+pub use rounds::RoundLattice;
+pub use rounds::RoundOrder;
+pub use rounds::RoundTimestamp;
+pub use rounds::UnsignedSame;
+pub use signed::SignedSame;
 
 // Data and amounts: all that is asked of them is whether two are the same.
 pub trait Same: Sized {

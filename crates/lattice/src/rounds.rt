@@ -1,8 +1,7 @@
-// Plain numbers: unsigned ones as rounds, and any as data or amounts.
+// Plain unsigned numbers, as rounds and as data.
 ghost use mathlib.Core.Path.{_≡_};
 ghost use Prim.Native.Nat.{min, max};
 ghost use lib.Dec.{leb, eqb};
-ghost use Rattle.lattice.specs.Sameness.{eqb-signed};
 use crate::Lattice;
 use crate::PartialOrder;
 use crate::Same;
@@ -50,18 +49,6 @@ pub impl Same for u64 as UnsignedSame {
     ghost alike = { eqb };
 
     fn same(&self, other: &u64) -> bool {
-        *self == *other
-    }
-}
-
-pub impl Same for i64 as SignedSame {
-    type Value = i64;
-
-    ghost value = { λ n. n };
-
-    ghost alike = { eqb-signed };
-
-    fn same(&self, other: &i64) -> bool {
         *self == *other
     }
 }
