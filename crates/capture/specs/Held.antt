@@ -11,7 +11,7 @@ use Rattle.frontier.specs.Counts.{added-all, room}
 use Rattle.capture.specs.Kinds.{Kinds}
 use Rattle.capture.specs.Sizes.{reader-changes, reader-counts, largest-tally}
 use Rattle.capture.specs.Messages.{Change, Message, changes, statement, short-changes, fresh, those-behind, those-beyond}
-use Rattle.capture.specs.Answers.{Answer, answer, only-tables}
+use Rattle.capture.specs.Answers.{Answer, answer}
 use Rattle.capture.specs.Statements.{Progress, fresh-progress, lowered, advanced, statement-asks, lower-edge, edge-fits}
 
 pub record Held (D A R : Type 0) : Type 0 where

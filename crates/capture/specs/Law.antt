@@ -9,10 +9,9 @@ use Rattle.std.specs.declared.option.Option.the-variants.{Some, None}
 use Rattle.std.specs.shelf.Lawful.{distinct-test}
 use Rattle.frontier.specs.Frontiers.{beyond, leq, equal}
 use Rattle.capture.specs.Kinds.{Kinds}
-use Rattle.capture.specs.Messages.{Change, Statement, Message, changes, statement, coincide, alike, has}
-use Rattle.capture.specs.Answers.{Answer, is-accepted, brings}
+use Rattle.capture.specs.Messages.{Change, Message, changes, statement, coincide, alike, has}
+use Rattle.capture.specs.Answers.{is-accepted, brings}
 use Rattle.capture.specs.Readers.{Reader, held, prompt, away, stands-at}
-use Rattle.capture.specs.Sender.{Sender}
 use Rattle.capture.specs.Posts.{Post}
 use Rattle.capture.specs.Runs.{Call, recorded, closed, finished, pumped-changes, pumped-statements, fed, sifted, noted, settled, heeded, put, World, In, At, Step, Run}
 

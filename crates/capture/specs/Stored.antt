@@ -1,6 +1,6 @@
 -- What messages in stored form read as.
 use mathlib.Core.Bool.{cond}
-use mathlib.Core.List.{List, map}
+use mathlib.Core.List.{map}
 use Rattle.capture.specs.Messages.{Statement, Message, changes, statement}
 use Rattle.capture.specs.Views.{count-of, change-of}
 use Rattle.capture.specs.Rows.{row}

@@ -1,5 +1,5 @@
 -- What the code's messages read as, by what their data, times and amounts read as.
-use mathlib.Core.List.{List, map}
+use mathlib.Core.List.{map}
 use Prim.Native.Nat.{ℕ}
 use Rattle.capture.specs.Messages.{Change, Statement, Message, changes, statement}
 use Rattle.capture.specs.declared.message.Message.{Message as View}

@@ -1,7 +1,7 @@
 // Posts: where the messages of a sender go.
 ghost use mathlib.Core.Path.{_≡_};
-ghost use mathlib.Core.Bool.{Bool, true, false};
-ghost use mathlib.Core.List.{List, [], _∷_, _++_};
+ghost use mathlib.Core.Bool.{Bool};
+ghost use mathlib.Core.List.{List};
 ghost use Rattle.capture.specs.Messages.{Message as Meant};
 ghost use Rattle.capture.specs.Views.{message-of};
 ghost use Rattle.capture.specs.Posts.{Polled};

@@ -1,5 +1,5 @@
 use mathlib.Core.Path.{_≡_}
-use lib.ListN.{take, length}
+use lib.ListN.{take}
 use Rattle.capture.proofs.row.Row.fill.Given as given
 
 -- what was written so far is the front of the list
