@@ -1,0 +1,17 @@
+pub mod Kinds
+pub mod Sizes
+pub mod Messages
+pub mod Answers
+pub mod Statements
+pub mod Held
+pub mod Prompt
+pub mod Readers
+pub mod Sender
+pub mod Posts
+pub mod Runs
+pub mod Law
+pub mod Views
+pub mod Deliveries
+pub mod Rows
+pub mod Stored
+pub mod Sample
