@@ -55,6 +55,7 @@ zero-count : (b : Bool) → pos 0 +ℤ pos 0 ≡ pos (cond b 0 0)
 zero-count true = refl
 zero-count false = refl
 
+-- the first of the statements, if there is one, was not heard
 abbrev pub Unheard : {A : Type 0} → (Statement A → Type 0) → List (Statement A) → Type 0
 Unheard heard [] = Unit {0}
 Unheard heard (s ∷ ss) = heard s → ⊥

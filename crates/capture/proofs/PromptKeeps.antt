@@ -207,6 +207,7 @@ module _ {D A R : Type 0} {K : Kinds D A R} (ok : Lawful K) where
         (λ n. subst (λ l. PromptFine K rec ss top l out set h) (sym (append-nil ms)) f)
         (λ _. notes-by ms out set s h i f)
 
+    -- what is said of a reader that settled
     record SettleFine (ms : List (Message D A R)) (out : List (Change D A R)) (set : Bool) (h : Prompt D A R) (a : Answer (List A) × Prompt D A R) : Type 0 where
       fine : PromptFine K rec ss top ms out (cond (is-accepted (a .0)) true set) (a .1)
       onward : T (leq below (h .reported) (a .1 .reported))

@@ -62,6 +62,7 @@ module _ {A : Type 0} where
 abbrev pub closed-at-5 : Sender ℕ ℕ ℤ
 closed-at-5 = close rounds true (5 ∷ []) (record-changes rounds true (change 1 4 ∷ []) (fresh-sender rounds) .1) .1
 
+-- what comes of each delivery
 pub record Deliveries : Type 0 where
   -- a change at 0, then the statement that counts it, which publishes it; the change again is dropped
   pub in-order : from-fresh rounds (one (change 1 0) ∷ s (0 ∷ []) (1 ∷ []) ((0, 1) ∷ []) ∷ one (change 1 0) ∷ []) ≡ (still ∷ interval (change 1 0 ∷ []) (1 ∷ []) ∷ still ∷ [], reader (1 ∷ []) [] (1 ∷ []) 1)

@@ -14,6 +14,7 @@ use Rattle.capture.specs.Messages.{Change, Message, changes, statement, short-
 use Rattle.capture.specs.Answers.{Answer, answer}
 use Rattle.capture.specs.Statements.{Progress, fresh-progress, lowered, advanced, statement-asks, lower-edge, edge-fits}
 
+-- a held reader between calls
 pub record Held (D A R : Type 0) : Type 0 where
   -- what the statements and changes so far come to
   pub progress : Progress A

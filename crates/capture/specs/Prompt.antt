@@ -13,6 +13,7 @@ use Rattle.capture.specs.Messages.{Change, Statement, short-changes, coincide,
 use Rattle.capture.specs.Answers.{Answer, answer, only-tables}
 use Rattle.capture.specs.Statements.{Progress, fresh-progress, lowered, advanced, statement-asks, lower-edge, edge-fits}
 
+-- a prompt reader between calls
 pub record Prompt (D A R : Type 0) : Type 0 where
   -- what the statements, and the changes up to the last settle, come to
   pub progress : Progress A

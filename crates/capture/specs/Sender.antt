@@ -17,6 +17,7 @@ use Rattle.capture.specs.Messages.{Change, Statement, Message, changes, statem
 use Rattle.capture.specs.Answers.{Answer, answer}
 use Rattle.capture.specs.Statements.{small}
 
+-- a sender between calls
 pub record Sender (D A R : Type 0) : Type 0 where
   -- the frontier that it closed last: no change behind it can be recorded any more
   pub frontier : List A

@@ -17,6 +17,7 @@ use Rattle.capture.specs.Kinds.{Time}
 use Rattle.capture.specs.Sizes.{largest-count, reader-statements, reader-counts}
 use Rattle.capture.specs.Messages.{Change, Statement, short-statement}
 
+-- how far a reader has got along the statements
 pub record Progress (A : Type 0) : Type 0 where
   -- the progress frontier: the statements that acted reach to it without a gap
   pub frontier : List A
