@@ -1,7 +1,8 @@
 // Steps that our own crates share.
 //
 // Where a step refuses, what it wrote into its table stays there.  So callers hand it a scratch
-// table, and take over what it made only when it was accepted.
+// table, and take over what it made only when it was accepted.  `copy_entries` asks of its callers
+// that both tables have the entries that it copies.
 ghost use mathlib.Core.Path.{_≡_};
 ghost use mathlib.Core.List.{map, [], _++_};
 ghost use Prim.Native.Nat.{_≤_};
