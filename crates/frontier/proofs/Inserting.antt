@@ -12,29 +12,31 @@ use Rattle.std.proofs.shelf.Tests.{cond-false}
 use Rattle.frontier.specs.Frontiers.{beyond, without, inserted}
 use Rattle.frontier.specs.Tables.{in-use, Holds}
 
+-- what passes a test, by what stored values read as
+module _ {X A : Type 0} (p : A → Bool) (value : X → A) where
+  one-more : (b : Bool) (x : X) (xs : List X) (vs : List A) → map value xs ≡ vs → map value (cond b (x ∷ xs) xs) ≡ cond b (value x ∷ vs) vs
+  one-more true x xs vs e = ap (λ l. value x ∷ l) e
+  one-more false x xs vs e = e
+
+  pub kept-map : (xs : List X) → map value (kept-by (λ x. p (value x)) xs) ≡ kept-by p (map value xs)
+  kept-map [] = refl
+  kept-map (x ∷ xs) = one-more (p (value x)) x (kept-by (λ y. p (value y)) xs) (kept-by p (map value xs)) (kept-map xs)
+
+  -- the loop that keeps is at its end
+  pub kept-all : (xs ys : List X) (k i len : ℕ) → i ≡ len → Keeping (λ x. p (value x)) xs ys k i → (k ≤ len) × Holds value k ys (kept-by p (in-use value len xs)) × (drop len ys ≡ drop len xs)
+  kept-all xs ys k i len at-end kp =
+      let front : take k ys ≡ kept-by (λ x. p (value x)) (take len xs) = kp .front ∙ ap (λ n. kept-by (λ x. p (value x)) (take n xs)) at-end in
+      let reads : in-use value k ys ≡ kept-by p (in-use value len xs) = ap (map value) front ∙ kept-map (take len xs) in
+      let short : k ≤ length ys = omega (arith, kp .behind, kp .within, kp .long) in
+      (omega (arith, kp .behind), (reads, ap length (sym reads) ∙ length-map (take k ys) value ∙ length-take-le k ys short), ap (λ n. drop n ys) (sym at-end) ∙ kp .rest ∙ ap (λ n. drop n xs) at-end)
+
 module _ {X A : Type 0} (below : A → A → Bool) (value : X → A) (t : A) where
   -- the stored time is not at or after t
   abbrev pub stays : X → Bool
   stays x = not (below t (value x))
 
-  one-more : (b : Bool) (x : X) (xs : List X) (vs : List A) → map value xs ≡ vs → map value (cond b (x ∷ xs) xs) ≡ cond b (value x ∷ vs) vs
-  one-more true x xs vs e = ap (λ l. value x ∷ l) e
-  one-more false x xs vs e = e
-
-  pub without-map : (xs : List X) → map value (kept-by stays xs) ≡ without below t (map value xs)
-  without-map [] = refl
-  without-map (x ∷ xs) = one-more (not (below t (value x))) x (kept-by stays xs) (without below t (map value xs)) (without-map xs)
-
   pub length-without : (xs : List X) → length (kept-by stays xs) ≡ length (without below t (map value xs))
-  length-without xs = sym (length-map (kept-by stays xs) value) ∙ ap length (without-map xs)
-
-  -- the loop that keeps is at its end
-  pub kept-all : (xs ys : List X) (k i len : ℕ) → i ≡ len → Keeping stays xs ys k i → (k ≤ len) × Holds value k ys (without below t (in-use value len xs)) × (drop len ys ≡ drop len xs)
-  kept-all xs ys k i len at-end kp =
-      let front : take k ys ≡ kept-by stays (take len xs) = kp .front ∙ ap (λ n. kept-by stays (take n xs)) at-end in
-      let reads : in-use value k ys ≡ without below t (in-use value len xs) = ap (map value) front ∙ without-map (take len xs) in
-      let short : k ≤ length ys = omega (arith, kp .behind, kp .within, kp .long) in
-      (omega (arith, kp .behind), (reads, ap length (sym reads) ∙ length-map (take k ys) value ∙ length-take-le k ys short), ap (λ n. drop n ys) (sym at-end) ∙ kp .rest ∙ ap (λ n. drop n xs) at-end)
+  length-without xs = sym (length-map (kept-by stays xs) value) ∙ ap length (kept-map (λ e. not (below t e)) value xs)
 
   -- the loop that counts goes on
   module _ (xs : List X) (i n : ℕ) (x : X) (h : i < length xs) (read : x ≡ getD xs i x) (so-far : n ≡ length (kept-by stays (take i xs))) where

@@ -23,5 +23,5 @@ pub returns : need.returns
 returns g c =
     let o = g .T·PartialOrder in
     let at-end : c .loop-i .i ≡ c .args .len = omega arith in
-    let d = kept-all (o .below) (o .value) (o .value (c .args .time .now)) (c .args .table .now) (c .loop-i .table) (c .loop-i .k) (c .loop-i .i) (c .args .len) at-end (c .loop-i .inv) in
+    let d = kept-all (λ e. not (o .below (o .value (c .args .time .now)) e)) (o .value) (c .args .table .now) (c .loop-i .table) (c .loop-i .k) (c .loop-i .i) (c .args .len) at-end (c .loop-i .inv) in
     record { within = d .0; after = d .1; rest = d .2 }

@@ -7,7 +7,7 @@ use Rattle.std.proofs.shelf.Results.{err-from-errBy}
 use Rattle.questions.specs.Questions.{number-of}
 use Rattle.frontier.specs.Frontiers.{pairwise}
 use Rattle.frontier.specs.Tables.{frontier-size}
-use Rattle.frontier.proofs.Filling.{goes-on, stops, filled}
+use Rattle.frontier.proofs.Filling.{goes-on, stops, filled, inserting}
 use Rattle.frontier.proofs.Walks.{next, walked}
 use Rattle.frontier.proofs.steps.join_into.Needs as need
 
@@ -21,7 +21,7 @@ returns-in-Break-n g c =
     let rest = pairwise joins (map (o .value) (drop (c .loop-t .t-index + 1) (c .args .one .now))) other in
     let long : frontier-size ≤ length (c .loop-t .table) = omega arith in
     let turn = next (o .value) (c .args .one .now) (c .loop-t .t-index) (c .t-item .result) (c .loop-t-test .taken) (c .t-item .is) (λ ys. pairwise joins ys other) in
-    let end = stops (o .below) (o .value) _ _ (c .loop-t .n) (c .loop-t .table) (c .loop-t .inv .0) long _ part rest turn (c .loop-t .inv .1) (number-of (c .in-Break-n .field-0 .0)) (told .answer .0) (length (c .args .table .now)) 0 (omega arith) (c .if-table-lt-FRONTIER-SIZE .left) in
+    let end = stops (inserting (o .below)) (o .value) _ _ (c .loop-t .n) (c .loop-t .table) (c .loop-t .inv .0) long _ part rest turn (c .loop-t .inv .1) (number-of (c .in-Break-n .field-0 .0)) (told .answer .0) (length (c .args .table .now)) 0 (omega arith) (c .if-table-lt-FRONTIER-SIZE .left) in
     let p = err-from-errBy (c .from-residual .result) (c .from-residual .ensures .1) in
     rw (p .1, p .2) record { answer = (end, tt); rest = told .rest ∙ c .loop-t .inv .2 }
 
@@ -35,7 +35,7 @@ loop-t-again g c =
     let rest = pairwise joins (map (o .value) (drop (c .loop-t .t-index + 1) (c .args .one .now))) other in
     let long : frontier-size ≤ length (c .loop-t .table) = omega arith in
     let turn = next (o .value) (c .args .one .now) (c .loop-t .t-index) (c .t-item .result) (c .loop-t-test .taken) (c .t-item .is) (λ ys. pairwise joins ys other) in
-    let on = goes-on (o .below) (o .value) _ _ (c .loop-t .n) (c .loop-t .table) (c .loop-t .inv .0) long _ part rest turn (c .loop-t .inv .1) (c .in-Continue-n .n) (c .extend-by-joins .last .table) (told .answer .0) (told .answer .1) in
+    let on = goes-on (inserting (o .below)) (o .value) _ _ (c .loop-t .n) (c .loop-t .table) (c .loop-t .inv .0) long _ part rest turn (c .loop-t .inv .1) (c .in-Continue-n .n) (c .extend-by-joins .last .table) (told .answer .0) (told .answer .1) in
     (on .0, on .1, told .rest ∙ c .loop-t .inv .2)
 
 pub returns : need.returns
@@ -44,6 +44,6 @@ returns g c =
     let long : c .loop-t .n ≤ length (c .loop-t .table) = omega arith in
     let none = walked (o .value) (c .args .one .now) (c .loop-t .t-index) (λ ys. pairwise (g .T·Lattice .joined) ys (map (o .value) (c .args .other .now))) (c .loop-t-test .left) in
     record {
-      answer = filled (o .below) (o .value) _ _ _ (c .loop-t .n) (c .loop-t .table) long none (c .loop-t .inv .1) _ 0 (omega arith) (c .if-table-lt-FRONTIER-SIZE .left);
+      answer = filled (inserting (o .below)) (o .value) _ _ _ (c .loop-t .n) (c .loop-t .table) long none (c .loop-t .inv .1) _ 0 (omega arith) (c .if-table-lt-FRONTIER-SIZE .left);
       rest = c .loop-t .inv .2;
     }

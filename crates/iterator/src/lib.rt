@@ -1,0 +1,9 @@
+// Readers of the protocol: statements at work, which both sorts of reader share, and the reader that
+// holds changes back until its frontier is past them.
+//
+// All tables are lent to each call; the first entries of each are in use.
+mod edges;
+pub mod statements;
+
+// The entries that a table for a reader's counts has at least, and the counts that it has at most.
+pub const COUNTS_SIZE: usize = 1024;
