@@ -1,0 +1,4 @@
+// The sender, its pumps, and a post in a table.
+mod announcing;
+mod counting;
+mod queue;
