@@ -2,3 +2,10 @@
 mod announcing;
 mod counting;
 mod queue;
+mod sender;
+
+pub use counting::LARGEST_COUNT;
+pub use counting::SCRATCH_COUNTS;
+pub use counting::SENDER_COUNTS;
+pub use sender::OpenSender;
+pub use sender::QUEUE_MESSAGES;
