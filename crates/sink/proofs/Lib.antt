@@ -1,0 +1,4 @@
+pub mod Queues
+pub mod Additions
+pub mod Parting
+pub mod Recording

@@ -1,0 +1,11 @@
+// The sender, its pumps, and a post in a table.
+mod announcing;
+mod counting;
+mod queue;
+mod sender;
+
+pub use counting::LARGEST_COUNT;
+pub use counting::SCRATCH_COUNTS;
+pub use counting::SENDER_COUNTS;
+pub use sender::OpenSender;
+pub use sender::QUEUE_MESSAGES;
