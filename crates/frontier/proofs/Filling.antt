@@ -64,11 +64,13 @@ module _ {X A : Type 0} (below : A → A → Bool) (value : X → A) (start all 
   pub goes-on : (m : ℕ) (ys : List X) → first-no asks ≡ None → Holds value m ys (inserted-all below front part) → (m ≤ frontier-size) × Filling below frontier-size start all (in-use value m ys) rest
   goes-on m ys e made =
       let fit : fits below frontier-size front part ≡ true = accepted frontier-size 12 (length xs) n (fits below frontier-size front part) e .2 in
-      let size : length front ≤ frontier-size = omega (arith, length-in-use value n xs (omega arith)) in
-      (omega (arith, made .1, fits-length below frontier-size front part size fit), record {
-        made = fill .made ∙ ap (inserted-all below front) turn ∙ inserted-all-append below front part rest ∙ ap (λ es. inserted-all below es rest) (sym (made .0));
-        room = fill .room ∙ ap (fits below frontier-size front) turn ∙ fits-append below frontier-size front part rest ∙ ap (λ b. b && fits below frontier-size (inserted-all below front part) rest) fit ∙ ap (λ es. fits below frontier-size es rest) (sym (made .0));
-      })
+      let size : length front ≤ frontier-size = omega (arith, length-in-use value n xs (omega arith)) in (
+        omega (arith, made .1, fits-length below frontier-size front part size fit),
+        record {
+          made = fill .made ∙ ap (inserted-all below front) turn ∙ inserted-all-append below front part rest ∙ ap (λ es. inserted-all below es rest) (sym (made .0));
+          room = fill .room ∙ ap (fits below frontier-size front) turn ∙ fits-append below frontier-size front part rest ∙ ap (λ b. b && fits below frontier-size (inserted-all below front part) rest) fit ∙ ap (λ es. fits below frontier-size es rest) (sym (made .0));
+        },
+      )
 
   pub stops : (f : ℕ) → first-no asks ≡ Some f → (l len : ℕ) → len ≤ frontier-size → frontier-size ≤ l → first-no (frontier-asks l len (fits below frontier-size start all)) ≡ Some f
   stops f e l len h k =

@@ -1,2 +1,5 @@
 pub mod Numbers
 pub mod Cuts
+pub mod Fields
+pub mod Values
+pub mod Said
