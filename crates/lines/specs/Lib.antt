@@ -3,3 +3,5 @@ pub mod Cuts
 pub mod Fields
 pub mod Values
 pub mod Said
+pub mod Format
+pub mod Ahead

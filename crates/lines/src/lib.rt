@@ -2,12 +2,16 @@
 mod cuts;
 mod fields;
 mod line;
+mod line_reader;
 mod numbers;
+mod part;
+mod updates;
 
 pub use cuts::cut;
 use lattice::Product;
 pub use line::Line;
 pub use line::read_line;
+pub use line_reader::LineReader;
 pub use numbers::number;
 use timetable::Week;
 
