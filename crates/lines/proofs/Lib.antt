@@ -2,3 +2,4 @@ pub mod Cutting
 pub mod Digits
 pub mod Fielding
 pub mod Reading
+pub mod Adding

@@ -5,6 +5,7 @@ mod line;
 mod line_reader;
 mod numbers;
 mod part;
+mod statement;
 mod updates;
 
 pub use cuts::cut;
