@@ -3,3 +3,4 @@ pub mod Digits
 pub mod Fielding
 pub mod Reading
 pub mod Adding
+pub mod Opening

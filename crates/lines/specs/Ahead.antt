@@ -2,8 +2,8 @@
 use mathlib.Core.Path.{_≡_}
 use mathlib.Core.Bool.{Bool}
 use mathlib.Core.List.{List, [], map}
-use Prim.Native.Nat.{ℕ}
-use lib.ListN.{take, drop}
+use Prim.Native.Nat.{ℕ, _<_}
+use lib.ListN.{length, take, drop}
 use Rattle.std.specs.declared.result.Result.{Result}
 use Rattle.std.specs.declared.result.Result.the-variants.{Ok}
 use Rattle.lattice.specs.declared.product.Product.{Product}
@@ -41,3 +41,4 @@ pub record ReadChanges (before after : LineReader) (kept : Row (Lesson × Produc
   pub said : ahead (in-changes []) before ≡ with-message (changes cs) (ahead outside after)
   pub fronts : Fronts kept cs
   pub fits : few ≡ short-changes cs
+  pub on : length (left after) < length (left before)

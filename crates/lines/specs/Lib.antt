@@ -6,3 +6,4 @@ pub mod Said
 pub mod Format
 pub mod Ahead
 pub mod Statements
+pub mod Blocks

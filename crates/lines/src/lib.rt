@@ -1,4 +1,5 @@
 // The line format: numbers as bytes, and lines and fields as parts of the bytes that hold them.
+mod block;
 mod cuts;
 mod fields;
 mod line;
@@ -8,6 +9,7 @@ mod part;
 mod statement;
 mod updates;
 
+pub use block::MessageBlock;
 pub use cuts::cut;
 use lattice::Product;
 pub use line::Line;

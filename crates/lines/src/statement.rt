@@ -6,14 +6,17 @@ ghost use Rattle.std.specs.Results.{Cases};
 ghost use Rattle.std.specs.declared.result.Result.the-variants.{Err};
 ghost use Rattle.capture.specs.Messages.{Statement};
 ghost use Rattle.lines.specs.Format.{no-statement, in-statement, until-lower, until-upper};
+ghost use Rattle.capture.specs.Views.{statement-of};
+ghost use Rattle.lines.specs.Values.{time-value};
 ghost use Rattle.lines.specs.Said.{line-value};
 ghost use Rattle.lines.specs.Ahead.{ahead};
-ghost use Rattle.lines.specs.Statements.{Keeps, Takes, ReadStatement};
+ghost use Rattle.lines.specs.Statements.{rows-statement, Keeps, Takes, ReadStatement};
 use crate::Time;
 use crate::line::Line;
 use crate::line::read_line;
 use crate::line_reader::LineReader;
 use crate::part::Part;
+use capture::Progress;
 use capture::Row;
 
 // What was read of a statement: the first of each list, as many as there are places for.
@@ -74,6 +77,35 @@ impl Part {
 }
 
 impl StatementRows {
+    // Rows with nothing in use.
+    pub(crate) fn new(filler: Time) -> StatementRows {
+        StatementRows {
+            part: Part::Lower,
+            lower: Row::new(filler),
+            upper: Row::new(filler),
+            counts: Row::new((filler, 0)),
+            few: true,
+        }
+    }
+
+    // The statement that the rows have.
+    pub(crate) fn view(&self) -> Progress<'_, Time>
+        ensures { λ r. ⌜ statement-of time-value r ≡ rows-statement (now (self .entry)) ⌝ }
+    {
+        Progress {
+            lower: self.lower.view(),
+            upper: self.upper.view(),
+            counts: self.counts.view(),
+        }
+    }
+
+    // Whether there was a place for every time and count.
+    pub(crate) fn few(&self) -> bool
+        ensures { λ r. ⌜ r ≡ now (self .entry) .few ⌝ }
+    {
+        self.few
+    }
+
     // Empties all lists.
     fn clear(&mut self)
         ensures kept { λ _. ⌜ Keeps (now (self .exit)) no-statement ⌝ }
