@@ -1,8 +1,9 @@
 // Lists in stored form: a row of places, the first of them in use.
 ghost use mathlib.Core.Path.{_≡_};
-ghost use mathlib.Core.List.{[]};
+ghost use mathlib.Core.List.{[], _∷_, _++_};
 ghost use Prim.Native.Nat.{_≤_};
-ghost use lib.ListN.{length};
+ghost use lib.Dec.{ltb};
+ghost use lib.ListN.{length, take};
 ghost use Rattle.capture.specs.Rows.{Stores, has-places, row};
 use questions::Refusal;
 
@@ -34,6 +35,28 @@ impl<X: Copy, const N: usize> Row<X, N> {
         let n = if self.len < N { self.len } else { N };
         let all = &self.items[..];
         &all[0..n]
+    }
+
+    // Takes all values out.
+    pub fn clear(&mut self)
+        ensures { λ _. ⌜ row (now (self .exit)) ≡ [] ⌝ }
+    {
+        self.len = 0;
+    }
+
+    // Puts a value last where there is a place for it, and tells whether there was.
+    pub fn push(&mut self, item: X) -> bool
+        ensures room { λ r. ⌜ r ≡ ltb (length (row (now (self .entry)))) N ⌝ }
+        ensures after { λ _. ⌜ row (now (self .exit)) ≡ take N (row (now (self .entry)) ++ item ∷ []) ⌝ }
+    {
+        let n = self.view().len();
+        if n < N {
+            self.items[n] = item;
+            self.len = n + 1;
+            true
+        } else {
+            false
+        }
     }
 
     // Puts a list that is not too long in place of the values.

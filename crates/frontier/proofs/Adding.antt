@@ -122,12 +122,12 @@ module _ {X A : Type 0} (below : A → A → Bool) (value : X → A) (xs : List 
       let L = in-use (counted value) len xs in
       let at : counted value e ≡ getD L k (counted value e) = sym (getD-map (counted value) (take len xs) k e (counted value e) (omega (arith, length-take-le len xs long)) ∙ ap (counted value) (getD-take len xs k e h ∙ sym is)) in
       let reads : in-use (counted value) m ys ≡ added below L (value time) n =
-        ap (map (counted value)) front
-        ∙ map-append (counted value) (take k xs) (entry (e .0) (stopped (e .1 +ℤ n)) ++ drop (k + 1) (take len xs))
-        ∙ ap (λ l. map (counted value) l ++ map (counted value) (entry (e .0) (stopped (e .1 +ℤ n)) ++ drop (k + 1) (take len xs))) (sym (take-take k len xs (omega arith)))
-        ∙ ap (λ l. l ++ map (counted value) (entry (e .0) (stopped (e .1 +ℤ n)) ++ drop (k + 1) (take len xs))) (sym (take-map (counted value) k (take len xs)))
-        ∙ ap (λ l. take k L ++ l) (map-append (counted value) (entry (e .0) (stopped (e .1 +ℤ n))) (drop (k + 1) (take len xs)) ∙ ap (λ l. l ++ map (counted value) (drop (k + 1) (take len xs))) (entry-read e (stopped (e .1 +ℤ n))) ∙ ap (λ l. entry (value (e .0)) (stopped (e .1 +ℤ n)) ++ l) (sym (drop-map (counted value) (k + 1) (take len xs))))
-        ∙ sym (added-hit below (value time) n L k place (counted value e) at (omega (arith, size)))
+      ap (map (counted value)) front
+      ∙ map-append (counted value) (take k xs) (entry (e .0) (stopped (e .1 +ℤ n)) ++ drop (k + 1) (take len xs))
+      ∙ ap (λ l. map (counted value) l ++ map (counted value) (entry (e .0) (stopped (e .1 +ℤ n)) ++ drop (k + 1) (take len xs))) (sym (take-take k len xs (omega arith)))
+      ∙ ap (λ l. l ++ map (counted value) (entry (e .0) (stopped (e .1 +ℤ n)) ++ drop (k + 1) (take len xs))) (sym (take-map (counted value) k (take len xs)))
+      ∙ ap (λ l. take k L ++ l) (map-append (counted value) (entry (e .0) (stopped (e .1 +ℤ n))) (drop (k + 1) (take len xs)) ∙ ap (λ l. l ++ map (counted value) (drop (k + 1) (take len xs))) (entry-read e (stopped (e .1 +ℤ n))) ∙ ap (λ l. entry (value (e .0)) (stopped (e .1 +ℤ n)) ++ l) (sym (drop-map (counted value) (k + 1) (take len xs))))
+      ∙ sym (added-hit below (value time) n L k place (counted value e) at (omega (arith, size)))
       in
       (reads, ap length (sym reads) ∙ length-in-use (counted value) m ys short)
 

@@ -51,14 +51,20 @@ fn a_frontier_has_32_times_at_most() -> Result<(), Fail> {
 fn a_join_is_made_of_all_pairs_and_written_only_when_it_fits() -> Result<(), Fail> {
     let mut upper = [NOWHERE; 32];
     let mut scratch = [NOWHERE; 32];
-    check_eq(antichain_join_into(&[pair(2, 0)], &[pair(0, 1)], &mut upper, &mut scratch), Ok(1))?;
+    check_eq(
+        antichain_join_into(&[pair(2, 0)], &[pair(0, 1)], &mut upper, &mut scratch),
+        Ok(1),
+    )?;
     check(upper[0].outer == 2 && upper[0].inner == 1)?;
     let times = unordered();
     let start = [pair(0, 0)];
     let many = antichain_join_into(&times[0..33], &start, &mut upper, &mut scratch);
     check_eq(many, Err(Refusal::ManyTimes))?;
     check(upper[0].outer == 2 && upper[1].outer == 9)?;
-    check_eq(antichain_join_into(&times[0..32], &start, &mut upper, &mut scratch), Ok(32))?;
+    check_eq(
+        antichain_join_into(&times[0..32], &start, &mut upper, &mut scratch),
+        Ok(32),
+    )?;
     let short = antichain_join_into(&start, &start, &mut upper, &mut scratch[0..31]);
     check_eq(short, Err(Refusal::ShortTable))
 }
@@ -69,7 +75,10 @@ fn a_meet_has_the_first_list_first() -> Result<(), Fail> {
     let mut scratch = [NOWHERE; 32];
     let one = [pair(3, 0), pair(0, 3)];
     let other = [pair(1, 1), pair(4, 0)];
-    check_eq(antichain_meet(&one, &other, &mut lower, &mut scratch), Ok(3))?;
+    check_eq(
+        antichain_meet(&one, &other, &mut lower, &mut scratch),
+        Ok(3),
+    )?;
     check(lower[0].outer == 3 && lower[1].outer == 0 && lower[2].outer == 1)?;
     check(lower[3].outer == 9)?;
     check(antichain_less_equal(&lower[0..3], &one) && !antichain_less_equal(&one, &lower[0..3]))?;
@@ -91,13 +100,19 @@ fn a_table_of_counts_has_its_limit() -> Result<(), Fail> {
     let mut table = [(0u64, 0i64); 1100];
     let len = count_each(&mut table, 1024)?;
     check_eq(len, 1024)?;
-    check_eq(update(&mut table, len, 1024, 5000, 1), Err(Refusal::ManyCounts))?;
+    check_eq(
+        update(&mut table, len, 1024, 5000, 1),
+        Err(Refusal::ManyCounts),
+    )?;
     check_eq(update(&mut table, len, 1024, 5000, 0), Ok(1024))?;
     check_eq(update(&mut table, len, 1024, 7, 2), Ok(1024))?;
     check(table[7].0 == 7 && table[7].1 == 3)?;
     check_eq(update(&mut table, len, 1024, 6, -1), Ok(1023))?;
     check(table[6].0 == 7 && table[1022].0 == 1023)?;
-    check_eq(update(&mut table, 1025, 1024, 0, 1), Err(Refusal::ShortTable))?;
+    check_eq(
+        update(&mut table, 1025, 1024, 0, 1),
+        Err(Refusal::ShortTable),
+    )?;
     let mut short = [(0u64, 0i64); 1023];
     check_eq(update(&mut short, 0, 1024, 0, 1), Err(Refusal::ShortTable))
 }

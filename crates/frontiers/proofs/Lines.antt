@@ -12,49 +12,14 @@ use Rattle.std.specs.declared.result.Result.{Result}
 use Rattle.std.specs.declared.result.Result.the-variants.{Ok, Err}
 use Rattle.std.proofs.shelf.Lists.{append-nil}
 use Rattle.std.proofs.shelf.Tests.{true≢false, eqb-true}
-use Rattle.lines.specs.Cuts.{with-byte, cut-at}
+use Rattle.lines.specs.Cuts.{cut-at, split-from}
+use Rattle.lines.proofs.Cutting.{split-at, split-end}
 use Rattle.frontiers.specs.declared.input.Expected.{Expected}
 use Rattle.frontiers.specs.declared.input.Expected.the-variants.{End}
 use Rattle.frontiers.specs.declared.fault.Fault.{Fault}
 use Rattle.frontiers.specs.declared.fault.Fault.the-variants.{Malformed, Refused, Memory}
-use Rattle.frontiers.specs.Input.{Told, read-from, split-from, ended, says-from}
+use Rattle.frontiers.specs.Input.{Told, read-from, ended, says-from}
 use Rattle.frontiers.specs.Reading.{Faulty}
-
--- the line that is cut off comes first, and the input goes on behind it
-split-at : (begun bs : List ℕ) (p : List ℕ × List ℕ) → cut-at 10 bs ≡ Some p → split-from begun bs ≡ ((begun ++ p .0) ∷ split-from [] (p .1) .0, split-from [] (p .1) .1)
-split-at begun [] p e = let z : _≡_ {A = ℕ} 0 1 = cc in absurd (omega arith)
-split-at begun (b ∷ bs) p e =
-    let Goal : (List ℕ × List ℕ) → Bool → Type 0 = λ p v. cond v (begun ∷ split-from [] bs .0, split-from [] bs .1) (split-from (begun ++ b ∷ []) bs) ≡ ((begun ++ p .0) ∷ split-from [] (p .1) .0, split-from [] (p .1) .1) in
-    let here : Some ([], bs) ≡ Some p → Goal p true = λ k. let is : ([], bs) ≡ p = cc in subst (λ q. Goal q true) is (ap (λ l. (l ∷ split-from [] bs .0, split-from [] bs .1)) (sym (append-nil begun))) in
-    let there : (o : Option (List ℕ × List ℕ)) → cut-at 10 bs ≡ o → with-byte b o ≡ Some p → Goal p false = λ o. elim o as (λ o. cut-at 10 bs ≡ o → with-byte b o ≡ Some p → Goal p false) [
-      | None ↦ λ _ k. let z : _≡_ {A = ℕ} 0 1 = cc in absurd (omega arith)
-      | Some q ↦ λ h k. let is : (b ∷ q .0, q .1) ≡ p = cc in subst (λ r. Goal r false) is (split-at (begun ++ b ∷ []) bs q h ∙ ap (λ l. (l ∷ split-from [] (q .1) .0, split-from [] (q .1) .1)) (append-assoc begun (b ∷ []) (q .0)))
-    ] in
-    let case : (v : Bool) → cond v (Some ([], bs)) (with-byte b (cut-at 10 bs)) ≡ Some p → Goal p v = λ v. elim v as (λ v. cond v (Some ([], bs)) (with-byte b (cut-at 10 bs)) ≡ Some p → Goal p v) [ true ↦ here | false ↦ there (cut-at 10 bs) refl ] in
-    case (eqb b 10) e
-
--- bytes that no line ends
-split-end : (begun bs : List ℕ) → cut-at 10 bs ≡ None → split-from begun bs ≡ ([], begun ++ bs)
-split-end begun [] e = ap (λ l. ([], l)) (sym (append-nil begun))
-split-end begun (b ∷ bs) e =
-    let Goal : Bool → Type 0 = λ v. cond v (begun ∷ split-from [] bs .0, split-from [] bs .1) (split-from (begun ++ b ∷ []) bs) ≡ ([], begun ++ b ∷ bs) in
-    let there : (o : Option (List ℕ × List ℕ)) → cut-at 10 bs ≡ o → with-byte b o ≡ None → Goal false = λ o. elim o as (λ o. cut-at 10 bs ≡ o → with-byte b o ≡ None → Goal false) [
-      | None ↦ λ h _. split-end (begun ++ b ∷ []) bs h ∙ ap (λ l. ([], l)) (append-assoc begun (b ∷ []) bs)
-      | Some q ↦ λ _ k. let z : _≡_ {A = ℕ} 0 1 = cc in absurd (omega arith)
-    ] in
-    let case : (v : Bool) → cond v (Some ([], bs)) (with-byte b (cut-at 10 bs)) ≡ None → Goal v = λ v. elim v as (λ v. cond v (Some ([], bs)) (with-byte b (cut-at 10 bs)) ≡ None → Goal v) [ true ↦ λ k. let z : _≡_ {A = ℕ} 0 1 = cc in absurd (omega arith) | false ↦ there (cut-at 10 bs) refl ] in
-    case (eqb b 10) e
-
--- what is left behind a line is shorter
-pub cut-shorter : (bs : List ℕ) (p : List ℕ × List ℕ) → cut-at 10 bs ≡ Some p → length (p .1) < length bs
-cut-shorter [] p e = let z : _≡_ {A = ℕ} 0 1 = cc in absurd (omega arith)
-cut-shorter (b ∷ bs) p e =
-    let there : (o : Option (List ℕ × List ℕ)) → cut-at 10 bs ≡ o → with-byte b o ≡ Some p → length (p .1) < suc (length bs) = λ o. elim o as (λ o. cut-at 10 bs ≡ o → with-byte b o ≡ Some p → length (p .1) < suc (length bs)) [
-      | None ↦ λ _ k. let z : _≡_ {A = ℕ} 0 1 = cc in absurd (omega arith)
-      | Some q ↦ λ h k. let is : q .1 ≡ p .1 = cc in omega (arith, cut-shorter bs q h, ap length is)
-    ] in
-    let case : (v : Bool) → cond v (Some ([], bs)) (with-byte b (cut-at 10 bs)) ≡ Some p → length (p .1) < suc (length bs) = λ v. elim v as (λ v. cond v (Some ([], bs)) (with-byte b (cut-at 10 bs)) ≡ Some p → length (p .1) < suc (length bs)) [ true ↦ λ k. let is : bs ≡ p .1 = cc in omega (arith, ap length is) | false ↦ there (cut-at 10 bs) refl ] in
-    case (eqb b 10) e
 
 -- the rest of the input, by what reading its lines comes to
 abbrev closed : List ℕ → Result Told (ℕ × Expected) → Result Told (ℕ × Expected)

@@ -7,7 +7,7 @@ use Rattle.std.specs.declared.option.Option.{Option}
 use Rattle.std.specs.declared.option.Option.the-variants.{Some, None}
 use Rattle.std.specs.declared.result.Result.{Result}
 use Rattle.std.specs.declared.result.Result.the-variants.{Ok, Err}
-use Rattle.lines.specs.Cuts.{cut-at}
+use Rattle.lines.specs.Cuts.{cut-at, split-from}
 use Rattle.lines.specs.Numbers.{number-in}
 use Rattle.timetable.specs.Weeks.{is-week}
 use Rattle.frontiers.specs.declared.input.Side.{Side}
@@ -50,11 +50,6 @@ with-time Second t l = (l .0, l .1 ++ t ∷ [], l .2 + 1)
 abbrev pub read-from : Told → List (List ℕ) → Result Told (ℕ × Expected)
 read-from l [] = Ok l
 read-from l (b ∷ bs) = elim (line-says b) [ Err e ↦ Err (l .2 + 1, e) | Ok p ↦ read-from (with-time (p .0) (p .1) l) bs ]
-
--- the lines that byte 10 ends, the first of them begun already, and the bytes behind the last end
-abbrev pub split-from : List ℕ → List ℕ → List (List ℕ) × List ℕ
-split-from begun [] = ([], begun)
-split-from begun (b ∷ bs) = cond (eqb b 10) (begun ∷ split-from [] bs .0, split-from [] bs .1) (split-from (begun ++ b ∷ []) bs)
 
 -- every line has to be ended
 abbrev pub ended : List ℕ → Told → Result Told (ℕ × Expected)

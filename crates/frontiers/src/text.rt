@@ -42,12 +42,15 @@ pub impl fmt::Display for Comparison as ComparisonDisplay {
 
 pub impl fmt::Display for Expected as ExpectedDisplay {
     fn fmt<W: fmt::Write>(&self, f: &mut fmt::Formatter<W>) -> fmt::Result {
-        f.write_str(match self {
-            Expected::Kind => "L or H, then a tab",
-            Expected::Round => "a round, 0 to 18446744073709551615 without leading zeros, then a tab",
-            Expected::Week => "a week, 0 or yyyyww with year 2000 to 2199 and week 01 to 52",
-            Expected::End => "byte 10 at the end of the line",
-        })
+        f.write_str(
+            match self {
+                Expected::Kind => "L or H, then a tab",
+                Expected::Round =>
+                    "a round, 0 to 18446744073709551615 without leading zeros, then a tab",
+                Expected::Week => "a week, 0 or yyyyww with year 2000 to 2199 and week 01 to 52",
+                Expected::End => "byte 10 at the end of the line",
+            },
+        )
     }
 }
 
@@ -57,7 +60,10 @@ pub impl fmt::Display for Fault as FaultDisplay {
             Fault::Malformed(line, expected) => write!(f, "line {line}: expected {expected}"),
             Fault::Refused(refusal) => {
                 let number = refusal.number();
-                write!(f, "refused, question {number}: a frontier has more than 32 times")
+                write!(
+                    f,
+                    "refused, question {number}: a frontier has more than 32 times"
+                )
             }
             Fault::Memory => f.write_str("out of memory"),
         }

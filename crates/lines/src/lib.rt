@@ -1,6 +1,22 @@
 // The line format: numbers as bytes, and lines and fields as parts of the bytes that hold them.
+mod block;
 mod cuts;
+mod fields;
+mod line;
+mod line_reader;
 mod numbers;
+mod part;
+mod statement;
+mod updates;
 
+pub use block::MessageBlock;
 pub use cuts::cut;
+use lattice::Product;
+pub use line::Line;
+pub use line::read_line;
+pub use line_reader::LineReader;
 pub use numbers::number;
+use timetable::Week;
+
+// A planning round and a week of it.
+pub type Time = Product<u64, Week>;

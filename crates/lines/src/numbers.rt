@@ -16,7 +16,8 @@ fn is_digit(byte: u8) -> bool
 fn append(n: u64, digit: u8) -> Option<u64>
     ensures { λ r. ⌜ (is-digit digit ≡ true → r ≡ cond (leb (longer n digit) most) (Some (longer n digit)) None) ⌝ }
 {
-    n.checked_mul(10)?.checked_add(u64::from(digit.wrapping_sub(48)))
+    n.checked_mul(10)?
+        .checked_add(u64::from(digit.wrapping_sub(48)))
 }
 
 fn digits(field: &[u8]) -> Option<u64>

@@ -26,10 +26,10 @@ returns-then-sum-eq0 g c =
     record {
       within = omega arith;
       after = λ e is.
-        let same : r ≡ e = getD-read (c .args .table .now) (c .args .at) r inside (c .index-table-at .is) e ∙ sym is in
-        changed-none (c .args .table .now) (c .args .len) (c .args .at) r s (c .pre .0) (c .pre .1) (c .remove-at .last .table) none (c .remove-at .ensures .front)
-        ∙ ap (λ v. take (c .args .at) (c .args .table .now) ++ (entry (r .0) v ++ drop (c .args .at + 1) (take (c .args .len) (c .args .table .now)))) sum
-        ∙ ap (λ v. take (c .args .at) (c .args .table .now) ++ (entry (v .0) (stopped (v .1 +ℤ c .args .amount)) ++ drop (c .args .at + 1) (take (c .args .len) (c .args .table .now)))) same;
+          let same : r ≡ e = getD-read (c .args .table .now) (c .args .at) r inside (c .index-table-at .is) e ∙ sym is in
+          changed-none (c .args .table .now) (c .args .len) (c .args .at) r s (c .pre .0) (c .pre .1) (c .remove-at .last .table) none (c .remove-at .ensures .front)
+          ∙ ap (λ v. take (c .args .at) (c .args .table .now) ++ (entry (r .0) v ++ drop (c .args .at + 1) (take (c .args .len) (c .args .table .now)))) sum
+          ∙ ap (λ v. take (c .args .at) (c .args .table .now) ++ (entry (v .0) (stopped (v .1 +ℤ c .args .amount)) ++ drop (c .args .at + 1) (take (c .args .len) (c .args .table .now)))) same;
       rest = c .remove-at .ensures .rest;
     }
 
@@ -51,9 +51,9 @@ returns g c =
     record {
       within = omega arith;
       after = λ e is.
-        let same : r ≡ e = getD-read (c .args .table .now) (c .args .at) r inside (c .index-table-at .is) e ∙ sym is in
-        changed-one (c .args .table .now) (c .args .len) (c .args .at) r (toZ w64 (ofZ w64 s)) (c .pre .0) (c .pre .1) (λ z. c .if-sum-eq0 .left (ap (ofZ w64) (sym back ∙ z)))
-        ∙ ap (λ v. take (c .args .at) (c .args .table .now) ++ (entry (r .0) v ++ drop (c .args .at + 1) (take (c .args .len) (c .args .table .now)))) (back ∙ sum)
-        ∙ ap (λ v. take (c .args .at) (c .args .table .now) ++ (entry (v .0) (stopped (v .1 +ℤ c .args .amount)) ++ drop (c .args .at + 1) (take (c .args .len) (c .args .table .now)))) same;
+          let same : r ≡ e = getD-read (c .args .table .now) (c .args .at) r inside (c .index-table-at .is) e ∙ sym is in
+          changed-one (c .args .table .now) (c .args .len) (c .args .at) r (toZ w64 (ofZ w64 s)) (c .pre .0) (c .pre .1) (λ z. c .if-sum-eq0 .left (ap (ofZ w64) (sym back ∙ z)))
+          ∙ ap (λ v. take (c .args .at) (c .args .table .now) ++ (entry (r .0) v ++ drop (c .args .at + 1) (take (c .args .len) (c .args .table .now)))) (back ∙ sum)
+          ∙ ap (λ v. take (c .args .at) (c .args .table .now) ++ (entry (v .0) (stopped (v .1 +ℤ c .args .amount)) ++ drop (c .args .at + 1) (take (c .args .len) (c .args .table .now)))) same;
       rest = drop-set-lt (c .args .len) (c .args .table .now) (c .args .at) (r .0, toZ w64 (ofZ w64 s)) (c .pre .0);
     }

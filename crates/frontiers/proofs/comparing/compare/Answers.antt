@@ -24,8 +24,7 @@ returns c =
     let up : upper ≡ reduced ys = ap (map time-value) (c .as-slice-upper .ensures) ∙ second .1 .0 in
     let room = λ (l : List (ℕ × ℕ)). fits at-or-before frontier-size [] l in
     let meet-fits = sym (same-of (λ a b. room (a ++ b)) lower upper (reduced xs) (reduced ys) low up) ∙ asked-all (room (lower ++ upper)) 12 [] (met .0) .0 in
-    let join-fits = sym (same-of (λ a b. room (pairwise later a b)) lower upper (reduced xs) (reduced ys) low up) ∙ asked-all (room (pairwise later lower upper)) 12 [] (joined .0) .0 in
-    (
+    let join-fits = sym (same-of (λ a b. room (pairwise later a b)) lower upper (reduced xs) (reduced ys) low up) ∙ asked-all (room (pairwise later lower upper)) 12 [] (joined .0) .0 in (
       all-fit _ _ _ _ (asked-all (room xs) 12 [] (first .0) .0) (asked-all (room ys) 12 [] (second .0) .0) meet-fits join-fits,
       record {
         first = first .1;

@@ -2,9 +2,10 @@ use mathlib.Core.Path.{sym, subst, _∙_}
 use mathlib.Core.List.{[]}
 use native.Mathlib.Omega.{arith}
 use Rattle.std.proofs.shelf.Results.{err-from-errBy}
-use Rattle.frontiers.specs.Input.{split-from}
+use Rattle.lines.specs.Cuts.{split-from}
 use Rattle.frontiers.specs.Reading.{told, Faulty}
-use Rattle.frontiers.proofs.Lines.{cut-shorter, line-read, line-faulty, lines-done, nothing-left, something-left}
+use Rattle.lines.proofs.Cutting.{cut-shorter}
+use Rattle.frontiers.proofs.Lines.{line-read, line-faulty, lines-done, nothing-left, something-left}
 use Rattle.frontiers.proofs.reading.read.Needs as need
 
 pub returns-in-Break-add-line : need.returns-in-Break-add-line
