@@ -2,8 +2,11 @@
 // holds changes back until its frontier is past them.
 //
 // All tables are lent to each call; the first entries of each are in use.
+mod changes;
 mod edges;
 pub mod statements;
 
 // The entries that a table for a reader's counts has at least, and the counts that it has at most.
 pub const COUNTS_SIZE: usize = 1024;
+// The entries that a table for waiting statements has at least, and the statements that wait at most.
+pub const WAITING_SIZE: usize = 32;
