@@ -2,15 +2,19 @@
 // missing, and the changes on either side of it.
 ghost use mathlib.Core.Path.{_≡_};
 ghost use mathlib.Core.List.{map};
+ghost use mathlib.Core.Bool.{true, false};
 ghost use Prim.Native.Nat.{_≤_};
 ghost use lib.ListN.{length, drop};
 ghost use Rattle.questions.specs.Answers.{Answered};
 ghost use Rattle.frontier.specs.Counts.{positives};
-ghost use Rattle.frontier.specs.Frontiers.{inserted-all, fits};
+ghost use Rattle.frontier.specs.Frontiers.{inserted-all, fits, equal};
 ghost use Rattle.frontier.specs.Tables.{in-use, Holds, frontier-asks, frontier-size, counted};
 ghost use Rattle.capture.specs.Messages.{those-behind, those-beyond};
+ghost use Rattle.capture.specs.Sizes.{reader-changes};
 ghost use Rattle.capture.specs.Views.{change-of};
+ghost use Rattle.iterator.specs.Intervals.{Lets-out};
 use frontier::FRONTIER_SIZE;
+use frontier::antichain_equal;
 use frontier::insert;
 use frontier::is_beyond;
 use frontier::steps;
@@ -103,4 +107,30 @@ pub(crate) fn keep_beyond<D: Same + Copy, T: PartialOrder + Copy, R: Same + Copy
         }
     }
     k
+}
+
+// Publishes the held changes behind the lower edge where that differs from the reported frontier,
+// and reports the edge.  Tells how many changes went out and how many times the edge has, if any.
+pub(crate) fn publish<D: Same + Copy, T: PartialOrder + Copy, R: Same + Copy>(
+    edge: &[T],
+    reported: &mut [T],
+    times: usize,
+    held: &mut [(D, T, R)],
+    len: usize,
+    published: &mut [(D, T, R)],
+    told: &mut [T],
+) -> Option<(usize, usize)>
+    requires { ⌜ (length (now edge) ≤ frontier-size) × (times ≤ frontier-size) × (frontier-size ≤ length (now reported)) × (len ≤ reader-changes) × (reader-changes ≤ length (now held)) × (reader-changes ≤ length (now published)) × (frontier-size ≤ length (now told)) ⌝ }
+    ensures { λ r. ⌜ Lets-out (T·PartialOrder .below) (T·PartialOrder .value) (change-of (D·Same .value) (T·PartialOrder .value) (R·Same .value)) r (map (T·PartialOrder .value) (now (edge .entry))) times len (now (reported .entry)) (now (reported .exit)) (now (held .entry)) (now (held .exit)) (now (published .entry)) (now (published .exit)) (now (told .entry)) (now (told .exit)) ⌝ }
+{
+    if antichain_equal(edge, &reported[0..times]) {
+        return None;
+    }
+    let all = &held[..];
+    let n = copy_behind(&all[0..len], edge, published);
+    keep_beyond(held, len, edge);
+    let m = edge.len();
+    steps::copy_entries(edge, reported, m);
+    steps::copy_entries(edge, told, m);
+    Some((n, m))
 }
