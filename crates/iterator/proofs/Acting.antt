@@ -1,26 +1,30 @@
 -- How the questions of an act are answered, and how acts follow one another.
 use mathlib.Core.Path.{_≡_, refl, sym, ap, _∙_}
-use mathlib.Core.Bool.{Bool, true, false, not}
+use mathlib.Core.Bool.{Bool, true, false, not, _&&_}
 use mathlib.Core.List.{List, [], _∷_, _++_}
 use Prim.Native.Nat.{ℕ, suc, _<_, _≤_}
 use native.Mathlib.Omega.{arith}
-use lib.Dec.{T}
+use lib.Dec.{T, ltb}
 use lib.IntN.{ℤ}
 use lib.ListN.{length, take, drop, getD}
 use Rattle.std.specs.declared.option.Option.{Option}
 use Rattle.std.specs.declared.option.Option.the-variants.{Some, None}
 use Rattle.std.specs.shelf.Lists.{leading}
+use Rattle.std.proofs.shelf.Tests.{cond-true, cond-false, and-parts}
 use Rattle.questions.specs.Questions.{first-no}
 use Rattle.questions.proofs.Asking.{ask-next, ask-here}
 use Rattle.lattice.specs.Orders.{Order, Joins}
 use Rattle.frontier.specs.Counts.{room}
 use Rattle.frontier.specs.Frontiers.{fits, leq, pairwise, join}
-use Rattle.frontier.specs.Tables.{frontier-size}
+use Rattle.frontier.specs.Tables.{sized, frontier-size}
+use Rattle.frontier.proofs.Tables.{sized-tells}
 use Rattle.frontier.proofs.Joining.{leq-join-left}
 use Rattle.capture.specs.Kinds.{Time}
 use Rattle.capture.specs.Messages.{Statement}
-use Rattle.capture.specs.Sizes.{reader-counts}
-use Rattle.capture.specs.Statements.{Progress, passed, ready, not-passed, counts-beyond, first-ready, with-waiting, act, act-asks, drained, drain-asks}
+use Rattle.capture.specs.Sizes.{reader-counts, reader-statements}
+use Rattle.capture.specs.Statements.{Progress, passed, ready, not-passed, counts-beyond, first-ready, with-waiting, act, act-asks, drained, drain-asks, advanced}
+use Rattle.iterator.specs.Tables.{progress-sized, Progress-sized, turns-asks, course-asks}
+use Rattle.iterator.specs.declared.statements.Lengths.{Lengths}
 use Rattle.iterator.proofs.Waiting.{unready, first-at, first-none, kept-without}
 
 pub same-progress : {A : Type 0} {f f′ : List A} {c c′ : List (A × ℤ)} {w w′ : List (Statement A)} → f ≡ f′ → c ≡ c′ → w ≡ w′ → _≡_ {A = Progress A} (record { frontier = f; counts = c; waiting = w }) (record { frontier = f′; counts = c′; waiting = w′ })
@@ -98,3 +102,38 @@ module _ {A : Type 0} (t : Time A) (order : Order (t .below)) (joins : Joins (t 
 
     pub asked-none : first-no (drain-asks t (suc n) p) ≡ None
     asked-none = ap (λ o. first-no (elim o [ None ↦ [] | Some q ↦ act-asks t (q .0) (with-waiting p (q .1)) ++ drain-asks t n (act t (q .0) (with-waiting p (q .1))) ])) (first-none (t .below) (p .frontier) (p .waiting) h)
+
+-- what comes of a statement
+module _ {A : Type 0} (t : Time A) (s : Statement A) (p : Progress A) where
+  module _ (e : passed (t .below) (p .frontier) s ≡ true) where
+    pub dropped-asks : course-asks t s p ≡ []
+    dropped-asks = cond-true (passed (t .below) (p .frontier) s) _ _ e
+
+    pub dropped : advanced t s p ≡ p
+    dropped = cond-true (passed (t .below) (p .frontier) s) _ _ e
+
+  module _ (e : passed (t .below) (p .frontier) s ≡ false) where
+    module _ (h : ready (t .below) (p .frontier) s ≡ true) where
+      pub acting-asks : course-asks t s p ≡ turns-asks t (length (p .waiting)) s p
+      acting-asks = cond-false (passed (t .below) (p .frontier) s) _ _ e ∙ cond-true (ready (t .below) (p .frontier) s) _ _ h
+
+      pub acting : advanced t s p ≡ drained t (length (p .waiting)) (act t s p)
+      acting = cond-false (passed (t .below) (p .frontier) s) _ _ e ∙ cond-true (ready (t .below) (p .frontier) s) _ _ h
+
+    module _ (h : ready (t .below) (p .frontier) s ≡ false) where
+      pub waiting-asks : course-asks t s p ≡ (ltb (length (p .waiting)) reader-statements, 10) ∷ []
+      waiting-asks = cond-false (passed (t .below) (p .frontier) s) _ _ e ∙ cond-false (ready (t .below) (p .frontier) s) _ _ h
+
+      pub waits : advanced t s p ≡ with-waiting p (p .waiting ++ s ∷ [])
+      waits = cond-false (passed (t .below) (p .frontier) s) _ _ e ∙ cond-false (ready (t .below) (p .frontier) s) _ _ h
+
+-- tables that are at least their sizes
+pub progress-room : {X Y Z : Type 0} (n : Lengths) (F : List X) (C : List Y) (W : List Z) (S : List X) → progress-sized n F C W S ≡ true → Progress-sized n F C W × (frontier-size ≤ length S)
+progress-room n F C W S e =
+    let a = and-parts (sized frontier-size (n .frontier) (length F)) (sized reader-counts (n .counts) (length C) && (sized reader-statements (n .waiting) (length W) && sized frontier-size 0 (length S))) e in
+    let b = and-parts (sized reader-counts (n .counts) (length C)) (sized reader-statements (n .waiting) (length W) && sized frontier-size 0 (length S)) (a .1) in
+    let d = and-parts (sized reader-statements (n .waiting) (length W)) (sized frontier-size 0 (length S)) (b .1) in
+    let f = sized-tells frontier-size (n .frontier) (length F) (a .0) in
+    let c = sized-tells reader-counts (n .counts) (length C) (b .0) in
+    let w = sized-tells reader-statements (n .waiting) (length W) (d .0) in
+    ((f .0, f .1, c .0, c .1, w .0, w .1), sized-tells frontier-size 0 (length S) (d .1) .1)

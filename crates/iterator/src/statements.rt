@@ -3,25 +3,29 @@
 // Where a step refuses, what it wrote into its tables stays there.  So callers hand it scratch
 // tables, and take over what it made only when it was accepted.
 ghost use mathlib.Core.Path.{_≡_};
-ghost use mathlib.Core.Bool.{not, _&&_};
-ghost use mathlib.Core.List.{map};
+ghost use mathlib.Core.Bool.{true, not, _&&_};
+ghost use mathlib.Core.List.{map, [], _∷_, _++_};
+ghost use lib.Dec.{ltb};
 ghost use lib.ListN.{length};
 ghost use Rattle.std.specs.shelf.Lawful.{all-pass};
 ghost use Rattle.std.specs.shelf.Lists.{leading};
-ghost use Prim.Native.Nat.{_≤_};
+ghost use Prim.Native.Nat.{_+_, _≤_};
 ghost use Rattle.questions.specs.Answers.{Answered};
 ghost use Rattle.lattice.specs.Orders.{at-once};
 ghost use Rattle.frontier.specs.Frontiers.{beyond};
 ghost use Rattle.frontier.specs.Counts.{added-all, room};
-ghost use Rattle.frontier.specs.Tables.{in-use, Holds, table-asks, counted, frontier-size};
-ghost use Rattle.capture.specs.Sizes.{reader-counts};
-ghost use Rattle.capture.specs.Statements.{small, inside, counted-once, counts-beyond, passed, ready, not-passed, act as acted, act-asks, drained, drain-asks};
+ghost use Rattle.frontier.specs.Tables.{in-use, Holds, table-asks, counted, sized, frontier-size};
+ghost use Rattle.capture.specs.Sizes.{reader-counts, reader-statements};
+ghost use Rattle.capture.specs.Messages.{short-statement};
+ghost use Rattle.capture.specs.Statements.{small, inside, counted-once, counts-beyond, passed, ready, not-passed, act as acted, act-asks, drained, drain-asks, advanced, statement-asks};
 ghost use Rattle.capture.specs.Stored.{stored-statement};
 ghost use Rattle.capture.specs.Views.{count-of, statement-of};
-ghost use Rattle.iterator.specs.Tables.{time-of, progress-of, Holds-progress, Progress-sized};
+ghost use Rattle.iterator.specs.Tables.{time-of, progress-of, progress-sized, Holds-progress, Progress-sized, made-asks, turns-asks, course-asks};
 use crate::COUNTS_SIZE;
+use crate::WAITING_SIZE;
 use capture::Progress;
 use capture::StoredProgress;
+use frontier::FRONTIER_SIZE;
 use frontier::antichain_less_equal;
 use frontier::is_beyond;
 use frontier::steps;
@@ -229,4 +233,137 @@ fn drain<T: Timestamp + Copy>(
         n = act(next.view(), frontier, counts, waiting, n, scratch)?;
     }
     Ok(n)
+}
+
+// A statement acts, and then waiting ones, as long as there is one that can.
+fn act_in_turn<T: Timestamp + Copy>(
+    statement: Progress<'_, T>,
+    frontier: &mut [T],
+    counts: &mut [(T, i64)],
+    waiting: &mut [StoredProgress<T>],
+    lengths: Lengths,
+    scratch: &mut [T],
+) -> Result<Lengths, Refusal>
+    requires { ⌜ Progress-sized lengths (now frontier) (now counts) (now waiting) ⌝ ∗ ⌜ frontier-size ≤ length (now scratch) ⌝ }
+    ensures { λ r. ⌜ Answered r
+        (turns-asks (time-of (T·PartialOrder .below) (T·Lattice .joined) (T·Timestamp .start)) (lengths .waiting) (statement-of (T·PartialOrder .value) (statement .entry)) (progress-of (T·PartialOrder .value) lengths (now (frontier .entry)) (now (counts .entry)) (now (waiting .entry))))
+        (λ n. Holds-progress (T·PartialOrder .value) n (now (frontier .exit)) (now (counts .exit)) (now (waiting .exit)) (drained (time-of (T·PartialOrder .below) (T·Lattice .joined) (T·Timestamp .start)) (lengths .waiting) (acted (time-of (T·PartialOrder .below) (T·Lattice .joined) (T·Timestamp .start)) (statement-of (T·PartialOrder .value) (statement .entry)) (progress-of (T·PartialOrder .value) lengths (now (frontier .entry)) (now (counts .entry)) (now (waiting .entry))))))
+        (Unit {0}) ⌝ }
+{
+    let n = act(statement, frontier, counts, waiting, lengths, scratch)?;
+    drain(lengths.waiting, frontier, counts, waiting, n, scratch)
+}
+
+// A statement waits: it is stored after the others.
+fn wait<T: PartialOrder + Copy>(
+    statement: Progress<'_, T>,
+    waiting: &mut [StoredProgress<T>],
+    len: usize,
+) -> Result<usize, Refusal>
+    requires { ⌜ short-statement (statement-of value statement) ≡ true ⌝ ∗ ⌜ len ≤ reader-statements ⌝ ∗ ⌜ reader-statements ≤ length (now waiting) ⌝ }
+    ensures { λ r. ⌜ Answered r
+        ((ltb len reader-statements, 10) ∷ [])
+        (λ n. (in-use (stored-statement value) n (now (waiting .exit)) ≡ in-use (stored-statement value) len (now (waiting .entry)) ++ statement-of value (statement .entry) ∷ []) × (n ≤ reader-statements))
+        (Unit {0}) ⌝ }
+{
+    if len >= WAITING_SIZE {
+        return Err(Refusal::ManyWaiting);
+    }
+    waiting[len].store(statement)?;
+    Ok(len + 1)
+}
+
+// What every statement is asked, whatever comes of it: questions 2, 5, 6 and 7.
+fn check<T: PartialOrder>(statement: Progress<'_, T>) -> Result<(), Refusal>
+    ensures { λ r. ⌜ Answered r (made-asks below (statement-of value (statement .entry))) (λ _. Unit {0}) (Unit {0}) ⌝ }
+{
+    if !statement.is_short() {
+        return Err(Refusal::LongMessage);
+    }
+    if !is_small(statement.counts) {
+        return Err(Refusal::LargeCount);
+    }
+    if !is_inside(statement.lower, statement.upper, statement.counts) {
+        return Err(Refusal::OutsideStatement);
+    }
+    if !is_counted_once(statement.counts) {
+        return Err(Refusal::CountedTwice);
+    }
+    Ok(())
+}
+
+// Whether a table of so many entries is at least its size, and no more of it is in use.
+pub fn is_sized(size: usize, used: usize, entries: usize) -> bool
+    ensures { λ r. ⌜ r ≡ sized size used entries ⌝ }
+{
+    used <= size && size <= entries
+}
+
+// Whether each table of a reader's progress is at least its size, as question 1 asks.
+pub fn are_sized<T: PartialOrder>(
+    lengths: Lengths,
+    frontier: &[T],
+    counts: &[(T, i64)],
+    waiting: &[StoredProgress<T>],
+    scratch: &[T],
+) -> bool
+    ensures { λ r. ⌜ r ≡ progress-sized lengths (now (frontier .entry)) (now (counts .entry)) (now (waiting .entry)) (now (scratch .entry)) ⌝ }
+{
+    let times = is_sized(FRONTIER_SIZE, lengths.frontier, frontier.len());
+    let sums = is_sized(COUNTS_SIZE, lengths.counts, counts.len());
+    let statements = is_sized(WAITING_SIZE, lengths.waiting, waiting.len());
+    let spare = is_sized(FRONTIER_SIZE, 0, scratch.len());
+    times && (sums && (statements && spare))
+}
+
+// A statement that is not too long is dropped, acts, or waits.
+fn dispatch<T: Timestamp + Copy>(
+    statement: Progress<'_, T>,
+    frontier: &mut [T],
+    counts: &mut [(T, i64)],
+    waiting: &mut [StoredProgress<T>],
+    lengths: Lengths,
+    scratch: &mut [T],
+) -> Result<Lengths, Refusal>
+    requires { ⌜ Progress-sized lengths (now frontier) (now counts) (now waiting) ⌝ ∗ ⌜ frontier-size ≤ length (now scratch) ⌝ ∗ ⌜ short-statement (statement-of (T·PartialOrder .value) statement) ≡ true ⌝ }
+    ensures { λ r. ⌜ Answered r
+        (course-asks (time-of (T·PartialOrder .below) (T·Lattice .joined) (T·Timestamp .start)) (statement-of (T·PartialOrder .value) (statement .entry)) (progress-of (T·PartialOrder .value) lengths (now (frontier .entry)) (now (counts .entry)) (now (waiting .entry))))
+        (λ n. Holds-progress (T·PartialOrder .value) n (now (frontier .exit)) (now (counts .exit)) (now (waiting .exit)) (advanced (time-of (T·PartialOrder .below) (T·Lattice .joined) (T·Timestamp .start)) (statement-of (T·PartialOrder .value) (statement .entry)) (progress-of (T·PartialOrder .value) lengths (now (frontier .entry)) (now (counts .entry)) (now (waiting .entry)))))
+        (Unit {0}) ⌝ }
+{
+    let len = lengths.frontier;
+    if antichain_less_equal(statement.upper, &frontier[0..len]) {
+        return Ok(lengths);
+    }
+    if antichain_less_equal(statement.lower, &frontier[0..len]) {
+        return act_in_turn(statement, frontier, counts, waiting, lengths, scratch);
+    }
+    let n = wait(statement, waiting, lengths.waiting)?;
+    Ok(Lengths {
+        frontier: len,
+        counts: lengths.counts,
+        waiting: n,
+    })
+}
+
+// A statement comes to a reader whose progress stands in the tables: it is dropped, or acts and lets
+// others act, or waits.  Tells how much of each table is in use then.
+pub fn advance<T: Timestamp + Copy>(
+    statement: Progress<'_, T>,
+    frontier: &mut [T],
+    counts: &mut [(T, i64)],
+    waiting: &mut [StoredProgress<T>],
+    lengths: Lengths,
+    scratch: &mut [T],
+) -> Result<Lengths, Refusal>
+    ensures { λ r. ⌜ Answered r
+        ((progress-sized lengths (now (frontier .entry)) (now (counts .entry)) (now (waiting .entry)) (now (scratch .entry)), 1) ∷ statement-asks (time-of (T·PartialOrder .below) (T·Lattice .joined) (T·Timestamp .start)) (statement-of (T·PartialOrder .value) (statement .entry)) (progress-of (T·PartialOrder .value) lengths (now (frontier .entry)) (now (counts .entry)) (now (waiting .entry))))
+        (λ n. Holds-progress (T·PartialOrder .value) n (now (frontier .exit)) (now (counts .exit)) (now (waiting .exit)) (advanced (time-of (T·PartialOrder .below) (T·Lattice .joined) (T·Timestamp .start)) (statement-of (T·PartialOrder .value) (statement .entry)) (progress-of (T·PartialOrder .value) lengths (now (frontier .entry)) (now (counts .entry)) (now (waiting .entry)))))
+        (Unit {0}) ⌝ }
+{
+    if !are_sized(lengths, frontier, counts, waiting, scratch) {
+        return Err(Refusal::ShortTable);
+    }
+    check(statement)?;
+    dispatch(statement, frontier, counts, waiting, lengths, scratch)
 }
