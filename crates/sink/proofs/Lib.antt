@@ -1,4 +1,6 @@
 pub mod Queues
 pub mod Additions
 pub mod Parting
+pub mod Sizes
 pub mod Recording
+pub mod Closing
