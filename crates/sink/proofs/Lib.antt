@@ -4,3 +4,4 @@ pub mod Parting
 pub mod Sizes
 pub mod Recording
 pub mod Closing
+pub mod Pumping

@@ -31,6 +31,10 @@ module _ {X D Y A Z R : Type 0} (data-value : X → D) (time-value : Y → A) (a
   abbrev pub finished-of : FinishedSender → List (StoredMessage X Y Z) → List (StoredMessage X Y Z) → Sender D A R
   finished-of s updates progress = record { frontier = []; counts = []; queued-changes = queued data-value time-value amount-value (s .updates) updates; queued-statements = queued data-value time-value amount-value (s .progress) progress }
 
+-- whether the tables of a new sender have their sizes, by how long they are: frontier, counts, queue of changes, queue of statements
+abbrev pub open-tables : ℕ → ℕ → ℕ → ℕ → Bool
+open-tables frontier counts updates progress = leb frontier-size frontier && (leb sender-counts counts && (leb queue-messages updates && leb queue-messages progress))
+
 -- whether the tables of a record have their sizes, by how long they are: frontier, counts, queue of changes, scratch counts
 abbrev pub record-tables : ℕ → ℕ → ℕ → ℕ → Bool
 record-tables frontier counts queue scratch = leb frontier-size frontier && (leb sender-counts counts && (leb queue-messages queue && leb reader-counts scratch))

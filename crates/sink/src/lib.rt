@@ -1,6 +1,7 @@
 // The sender, its pumps, and a post in a table.
 mod announcing;
 mod counting;
+mod pump;
 mod queue;
 mod sender;
 

@@ -5,6 +5,8 @@ ghost use Prim.Native.Nat.{_≤_};
 
 mod close;
 mod finish;
+mod open;
+mod pumps;
 mod record;
 
 // The queue of changes, and that of statements, has at most so many messages.
