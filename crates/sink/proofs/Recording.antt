@@ -1,17 +1,14 @@
 -- What a record asks and leaves.
-use mathlib.Core.Path.{_≡_, refl, sym, ap, _∙_}
-use mathlib.Core.Logic.{_⊎_, ⊎-elim}
-use mathlib.Core.Bool.{Bool, true, false, _&&_}
+use mathlib.Core.Path.{_≡_, sym, ap, _∙_}
+use mathlib.Core.Bool.{Bool, true, false}
 use mathlib.Core.List.{List, [], _∷_, _++_, map}
-use Prim.Native.Nat.{ℕ, _-_, _<_, _≤_}
-use native.Mathlib.Omega.{arith}
+use Prim.Native.Nat.{ℕ, _-_, _≤_}
 use lib.Dec.{leb, ltb}
 use lib.IntN.{ℤ}
 use lib.ListN.{length, take}
-use Rattle.std.specs.declared.option.Option.{Option}
 use Rattle.std.specs.declared.option.Option.the-variants.{Some, None}
 use Rattle.std.specs.shelf.Lawful.{all-pass}
-use Rattle.std.proofs.shelf.Tests.{and-parts, and-from, and-left, and-right, leb-true, le-leb, lt-leb}
+use Rattle.std.proofs.shelf.Tests.{and-parts, leb-true}
 use Rattle.questions.specs.Questions.{first-no}
 use Rattle.questions.proofs.Asking.{ask-next, ask-here, asked-all}
 use Rattle.frontier.specs.Frontiers.{beyond}
@@ -21,28 +18,8 @@ use Rattle.frontier.proofs.Tables.{sub-zero}
 use Rattle.capture.specs.Kinds.{Kinds}
 use Rattle.capture.specs.Sizes.{largest-count, sender-counts, queue-messages}
 use Rattle.capture.specs.Messages.{Change, Message, changes, short-changes}
-use Rattle.capture.specs.Answers.{Answer, refused, accepted, answer}
-use Rattle.sink.specs.Senders.{record-tables}
+use Rattle.sink.proofs.Sizes.{leaves}
 use Rattle.capture.specs.Sender.{Sender, told, count-at, raised, counts-with, record-asks, record-changes}
-
--- whether the tables have their sizes
-module _ (f c q s : ℕ) where
-  pub tables-yes : 32 ≤ f → 256 ≤ c → 16 ≤ q → 1024 ≤ s → record-tables f c q s ≡ true
-  tables-yes hf hc hq hs = and-from (leb 32 f) _ (le-leb 32 f hf) (and-from (leb 256 c) _ (le-leb 256 c hc) (and-from (leb 16 q) _ (le-leb 16 q hq) (le-leb 1024 s hs)))
-
-  pub tables-no : (f < 32) ⊎ (((32 ≤ f) × (c < 256)) ⊎ (((32 ≤ f) × (256 ≤ c) × (q < 16)) ⊎ ((32 ≤ f) × (256 ≤ c) × (16 ≤ q) × (s < 1024)))) → record-tables f c q s ≡ false
-  tables-no =
-      ⊎-elim (λ h. and-left (leb 32 f) _ (lt-leb 32 f h))
-      (⊎-elim (λ h. and-right (leb 32 f) _ (and-left (leb 256 c) _ (lt-leb 256 c (h .1))))
-      (⊎-elim (λ h. and-right (leb 32 f) _ (and-right (leb 256 c) _ (and-left (leb 16 q) _ (lt-leb 16 q (h .2)))))
-      (λ h. and-right (leb 32 f) _ (and-right (leb 256 c) _ (and-right (leb 16 q) _ (lt-leb 1024 s (h .3)))))))
-
-  pub tables-told : record-tables f c q s ≡ true → (32 ≤ f) × (256 ≤ c) × (16 ≤ q) × (1024 ≤ s)
-  tables-told e =
-      let one = and-parts (leb 32 f) (leb 256 c && (leb 16 q && leb 1024 s)) e in
-      let two = and-parts (leb 256 c) (leb 16 q && leb 1024 s) (one .1) in
-      let three = and-parts (leb 16 q) (leb 1024 s) (two .1) in
-      (leb-true 32 f (one .0), leb-true 256 c (two .0), leb-true 16 q (three .0), leb-true 1024 s (three .1))
 
 -- what the tests say of parts of tables, they say of what is in use
 module _ {Y D A R : Type 0} (below : A → A → Bool) (value : Y → A) (cs : List (Change D A R)) where
@@ -53,12 +30,6 @@ module _ {Y D A R : Type 0} (below : A → A → Bool) (value : Y → A) (cs : L
   small-part xs n l e =
       ap (λ m. all-pass (λ c. leb (told (count-at below (in-use (counted value) m xs) (c .time))) largest-count) cs) (sub-zero n)
       ∙ ap (λ l. all-pass (λ c. leb (told (count-at below l (c .time))) largest-count) cs) e
-
--- what an accepted call leaves
-pub leaves : {X S : Type 0} (asks : List (Bool × ℕ)) (s : S) (made : X × S) → first-no asks ≡ None → answer asks s made .1 ≡ made .1
-leaves {X} {S} asks s made e =
-    let after : Option ℕ → Answer X × S = λ o. elim o as (λ _. Answer X × S) [ Some n ↦ (refused n, s) | None ↦ (accepted (made .0), made .1) ] in
-    ap (λ o. after o .1) e
 
 module _ {A : Type 0} (below : A → A → Bool) (n : ℕ) where
   -- counts that had room throughout have it at the end

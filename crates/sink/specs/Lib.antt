@@ -1,2 +1,3 @@
 pub mod Queues
 pub mod Senders
+pub mod Pumps

@@ -1,19 +1,35 @@
 // Parting the counts of a sender: those that a statement announces, and those that stay.
 ghost use mathlib.Core.Path.{_≡_};
+ghost use mathlib.Core.Bool.{_&&_, not};
 ghost use mathlib.Core.List.{map, [], _∷_};
 ghost use Prim.Native.Nat.{_≤_};
 ghost use lib.Dec.{leb};
 ghost use lib.ListN.{length};
 ghost use Rattle.questions.specs.Answers.{Answered};
+ghost use Rattle.frontier.specs.Frontiers.{leq};
 ghost use Rattle.frontier.specs.Tables.{in-use, Holds, counted};
 ghost use Rattle.capture.specs.Sizes.{largest-count};
 ghost use Rattle.capture.specs.Statements.{small};
-ghost use Rattle.capture.specs.Sender.{told, announced, retained};
+ghost use Rattle.capture.specs.Sender.{told, announced, retained, some};
 ghost use Rattle.capture.specs.Views.{count-of};
 use crate::counting::LARGEST_COUNT;
+use frontier::antichain_less_equal;
 use frontier::is_beyond;
 use lattice::PartialOrder;
 use questions::Refusal;
+
+// Whether a list moves a frontier on, as question 4 asks.
+pub(crate) fn advances<T: PartialOrder>(frontier: &[T], list: &[T]) -> bool
+    ensures { λ r. ⌜ r ≡ (some (map value (now (list .entry))) && (leq below (map value (now (frontier .entry))) (map value (now (list .entry))) && not (leq below (map value (now (list .entry))) (map value (now (frontier .entry)))))) ⌝ }
+{
+    if list.len() == 0 {
+        return false;
+    }
+    if !antichain_less_equal(frontier, list) {
+        return false;
+    }
+    !antichain_less_equal(list, frontier)
+}
 
 // A count as it is announced, a negative one as 0, where it is not too large.
 fn tell(count: i64) -> Result<u32, Refusal>

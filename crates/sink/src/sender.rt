@@ -3,6 +3,10 @@
 // The tables themselves are handed to each call: a frontier, counts, and two queues of messages.
 ghost use Prim.Native.Nat.{_≤_};
 
+mod close;
+mod finish;
+mod open;
+mod pumps;
 mod record;
 
 // The queue of changes, and that of statements, has at most so many messages.
@@ -21,6 +25,18 @@ pub struct OpenSender {
     progress: usize,
     ghost few_times: { frontier ≤ 32 },
     ghost few_counts: { counts ≤ 256 },
+    ghost few_updates: { updates ≤ 16 },
+    ghost few_progress: { progress ≤ 16 },
+}
+
+// A sender that closed the empty frontier: it has nothing more to say, and its queues are left to
+// be pumped.
+#[derive(Drop)]
+pub struct FinishedSender {
+    // how many messages of changes are queued
+    updates: usize,
+    // how many statements are queued
+    progress: usize,
     ghost few_updates: { updates ≤ 16 },
     ghost few_progress: { progress ≤ 16 },
 }

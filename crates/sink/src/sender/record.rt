@@ -1,14 +1,12 @@
 // Recording changes.
 ghost use mathlib.Core.Path.{_≡_};
-ghost use mathlib.Core.Bool.{true};
-ghost use mathlib.Core.List.{map, List, []};
+ghost use mathlib.Core.List.{map, []};
 ghost use lib.ListN.{length};
 ghost use Rattle.questions.specs.Answers.{Answered};
 ghost use Rattle.frontier.specs.Tables.{Holds, counted};
 ghost use Rattle.capture.specs.Kinds.{kinds};
 ghost use Rattle.capture.specs.Views.{change-of};
 ghost use Rattle.capture.specs.Sender.{record-asks, counts-with};
-ghost use Rattle.sink.specs.Queues.{queued};
 ghost use Rattle.sink.specs.Senders.{sender-of, record-tables, Recorded};
 use super::OpenSender;
 use super::QUEUE_MESSAGES;
@@ -40,9 +38,9 @@ impl OpenSender {
     ) -> Result<usize, Refusal>
         ensures { λ r. ⌜ Answered r
             (record-asks (kinds (D·Same .alike) (T·PartialOrder .below) (T·Lattice .joined) (T·Timestamp .start) (R·Same .alike)) (record-tables (length (now (frontier .entry))) (length (now (counts .entry))) (length (now (queue .entry))) (length (now (scratch .entry)))) (map (change-of (D·Same .value) (T·PartialOrder .value) (R·Same .value)) (now (changes .entry)))
-                (sender-of (T·PartialOrder .value) (now (self .entry)) (now (frontier .entry)) (now (counts .entry)) (queued (D·Same .value) (T·PartialOrder .value) (R·Same .value) (now (self .entry) .updates) (now (queue .entry))) []))
+                (sender-of (D·Same .value) (T·PartialOrder .value) (R·Same .value) (now (self .entry)) (now (frontier .entry)) (now (counts .entry)) (now (queue .entry)) []))
             (λ n. Holds (counted (T·PartialOrder .value)) n (now (scratch .exit)) (counts-with (kinds (D·Same .alike) (T·PartialOrder .below) (T·Lattice .joined) (T·Timestamp .start) (R·Same .alike)) (map (change-of (D·Same .value) (T·PartialOrder .value) (R·Same .value)) (now (changes .entry)))
-                (sender-of (T·PartialOrder .value) (now (self .entry)) (now (frontier .entry)) (now (counts .entry)) (queued (D·Same .value) (T·PartialOrder .value) (R·Same .value) (now (self .entry) .updates) (now (queue .entry))) [])))
+                (sender-of (D·Same .value) (T·PartialOrder .value) (R·Same .value) (now (self .entry)) (now (frontier .entry)) (now (counts .entry)) (now (queue .entry)) [])))
             (Unit {0}) ⌝ }
     {
         if frontier.len() < FRONTIER_SIZE
@@ -82,11 +80,11 @@ impl OpenSender {
         scratch: &mut [(T, i64)],
         changes: &[(D, T, R)],
     ) -> Result<(), Refusal>
-        ensures { λ r. ⌜ Recorded (kinds (D·Same .alike) (T·PartialOrder .below) (T·Lattice .joined) (T·Timestamp .start) (R·Same .alike)) r
+        ensures { λ r. ⌜ Recorded (kinds (D·Same .alike) (T·PartialOrder .below) (T·Lattice .joined) (T·Timestamp .start) (R·Same .alike))
             (record-tables (length (now (frontier .entry))) (length (now (counts .entry))) (length (now (queue .entry))) (length (now (scratch .entry))))
-            (map (change-of (D·Same .value) (T·PartialOrder .value) (R·Same .value)) (now (changes .entry)))
-            (λ ms. sender-of (T·PartialOrder .value) (now (self .entry)) (now (frontier .entry)) (now (counts .entry)) (queued (D·Same .value) (T·PartialOrder .value) (R·Same .value) (now (self .entry) .updates) (now (queue .entry))) ms)
-            (λ ms. sender-of (T·PartialOrder .value) (now (self .exit)) (now (frontier .entry)) (now (counts .exit)) (queued (D·Same .value) (T·PartialOrder .value) (R·Same .value) (now (self .exit) .updates) (now (queue .exit))) ms)
+            (λ t. sender-of (D·Same .value) (T·PartialOrder .value) (R·Same .value) (now (self .entry)) (now (frontier .entry)) (now (counts .entry)) (now (queue .entry)) t)
+            r (map (change-of (D·Same .value) (T·PartialOrder .value) (R·Same .value)) (now (changes .entry)))
+            (λ t. sender-of (D·Same .value) (T·PartialOrder .value) (R·Same .value) (now (self .exit)) (now (frontier .entry)) (now (counts .exit)) (now (queue .exit)) t)
             ((now (self .exit) ≡ now (self .entry)) × (now (counts .exit) ≡ now (counts .entry)) × (now (queue .exit) ≡ now (queue .entry))) ⌝ }
     {
         let n = self.ask_record(frontier, counts, queue, scratch, changes)?;

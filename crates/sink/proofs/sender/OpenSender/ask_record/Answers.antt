@@ -15,9 +15,9 @@ use Rattle.capture.specs.Views.{change-of}
 use Rattle.capture.specs.Stored.{stored-message}
 use Rattle.capture.specs.Sender.{raised, counts-with}
 use Rattle.capture.proofs.Lengths.{short-changes-of}
-use Rattle.sink.specs.Queues.{queued}
 use Rattle.sink.specs.Senders.{sender-of, record-tables}
-use Rattle.sink.proofs.Recording.{tables-yes, tables-no, beyond-part, small-part, all-beyond, all-small, counts-fit, record-1, record-2, record-3, record-5, record-11, record-13, record-yes}
+use Rattle.sink.proofs.Sizes.{sizes-yes, sizes-no}
+use Rattle.sink.proofs.Recording.{beyond-part, small-part, all-beyond, all-small, counts-fit, record-1, record-2, record-3, record-5, record-11, record-13, record-yes}
 use Rattle.sink.proofs.sender.OpenSender.ask_record.Needs as need
 
 pub returns-then-frontier-lt-FRONTIER-SIZE : need.returns-then-frontier-lt-FRONTIER-SIZE
@@ -25,18 +25,18 @@ returns-then-frontier-lt-FRONTIER-SIZE g c =
     let o = g .T·PartialOrder in
     let k = kinds (g .D·Same .alike) (o .below) (g .T·Lattice .joined) (g .T·Timestamp .start) (g .R·Same .alike) in
     let cs = map (change-of (g .D·Same .value) (o .value) (g .R·Same .value)) (c .args .changes .now) in
-    let s = sender-of (o .value) (c .args .self .now) (c .args .frontier .now) (c .args .counts .now) (queued (g .D·Same .value) (o .value) (g .R·Same .value) (c .args .self .now .updates) (c .args .queue .now)) [] in
+    let s = sender-of (g .D·Same .value) (o .value) (g .R·Same .value) (c .args .self .now) (c .args .frontier .now) (c .args .counts .now) (c .args .queue .now) [] in
     let tables = record-tables (length (c .args .frontier .now)) (length (c .args .counts .now)) (length (c .args .queue .now)) (length (c .args .scratch .now)) in
-    (record-1 k tables cs s (tables-no _ _ _ _ (c .then-frontier-lt-FRONTIER-SIZE .either)), tt)
+    (record-1 k tables cs s (sizes-no _ _ _ _ (λ h. lt-leb 1024 (length (c .args .scratch .now)) (h .3)) (c .then-frontier-lt-FRONTIER-SIZE .either)), tt)
 
 pub returns-then-changes-gt-MESSAGE-CHANGES : need.returns-then-changes-gt-MESSAGE-CHANGES
 returns-then-changes-gt-MESSAGE-CHANGES g c =
     let o = g .T·PartialOrder in
     let k = kinds (g .D·Same .alike) (o .below) (g .T·Lattice .joined) (g .T·Timestamp .start) (g .R·Same .alike) in
     let cs = map (change-of (g .D·Same .value) (o .value) (g .R·Same .value)) (c .args .changes .now) in
-    let s = sender-of (o .value) (c .args .self .now) (c .args .frontier .now) (c .args .counts .now) (queued (g .D·Same .value) (o .value) (g .R·Same .value) (c .args .self .now .updates) (c .args .queue .now)) [] in
+    let s = sender-of (g .D·Same .value) (o .value) (g .R·Same .value) (c .args .self .now) (c .args .frontier .now) (c .args .counts .now) (c .args .queue .now) [] in
     let tables = record-tables (length (c .args .frontier .now)) (length (c .args .counts .now)) (length (c .args .queue .now)) (length (c .args .scratch .now)) in
-    let long : tables ≡ true = tables-yes _ _ _ _ (c .if-frontier-lt-FRONTIER-SIZE .left) (c .if-counts-lt-SENDER-COUNTS .left) (c .if-queue-lt-QUEUE-MESSAGES .left) (c .if-scratch-lt-SCRATCH-COUNTS .left) in
+    let long : tables ≡ true = sizes-yes _ _ _ _ (c .if-frontier-lt-FRONTIER-SIZE .left) (c .if-counts-lt-SENDER-COUNTS .left) (c .if-queue-lt-QUEUE-MESSAGES .left) (le-leb 1024 (length (c .args .scratch .now)) (c .if-scratch-lt-SCRATCH-COUNTS .left)) in
     let many : short-changes cs ≡ false = sym (short-changes-of (g .D·Same .value) (o .value) (g .R·Same .value) (c .args .changes .now)) ∙ lt-leb (length (c .args .changes .now)) 64 (c .if-changes-gt-MESSAGE-CHANGES .taken) in
     (record-2 k tables cs s long many, tt)
 
@@ -45,9 +45,9 @@ returns-then-not-all-beyond g c =
     let o = g .T·PartialOrder in
     let k = kinds (g .D·Same .alike) (o .below) (g .T·Lattice .joined) (g .T·Timestamp .start) (g .R·Same .alike) in
     let cs = map (change-of (g .D·Same .value) (o .value) (g .R·Same .value)) (c .args .changes .now) in
-    let s = sender-of (o .value) (c .args .self .now) (c .args .frontier .now) (c .args .counts .now) (queued (g .D·Same .value) (o .value) (g .R·Same .value) (c .args .self .now .updates) (c .args .queue .now)) [] in
+    let s = sender-of (g .D·Same .value) (o .value) (g .R·Same .value) (c .args .self .now) (c .args .frontier .now) (c .args .counts .now) (c .args .queue .now) [] in
     let tables = record-tables (length (c .args .frontier .now)) (length (c .args .counts .now)) (length (c .args .queue .now)) (length (c .args .scratch .now)) in
-    let long : tables ≡ true = tables-yes _ _ _ _ (c .if-frontier-lt-FRONTIER-SIZE .left) (c .if-counts-lt-SENDER-COUNTS .left) (c .if-queue-lt-QUEUE-MESSAGES .left) (c .if-scratch-lt-SCRATCH-COUNTS .left) in
+    let long : tables ≡ true = sizes-yes _ _ _ _ (c .if-frontier-lt-FRONTIER-SIZE .left) (c .if-counts-lt-SENDER-COUNTS .left) (c .if-queue-lt-QUEUE-MESSAGES .left) (le-leb 1024 (length (c .args .scratch .now)) (c .if-scratch-lt-SCRATCH-COUNTS .left)) in
     let few : short-changes cs ≡ true = sym (short-changes-of (g .D·Same .value) (o .value) (g .R·Same .value) (c .args .changes .now)) ∙ le-leb (length (c .args .changes .now)) 64 (c .if-changes-gt-MESSAGE-CHANGES .left) in
     let beyond : c .all-beyond .result ≡ all-beyond k tables cs s = c .all-beyond .ensures ∙ beyond-part (o .below) (o .value) cs (c .args .frontier .now) (c .args .self .now .frontier) in
     (record-3 k tables cs s long few (sym beyond ∙ c .if-not-all-beyond .taken), tt)
@@ -57,9 +57,9 @@ returns-then-not-all-small g c =
     let o = g .T·PartialOrder in
     let k = kinds (g .D·Same .alike) (o .below) (g .T·Lattice .joined) (g .T·Timestamp .start) (g .R·Same .alike) in
     let cs = map (change-of (g .D·Same .value) (o .value) (g .R·Same .value)) (c .args .changes .now) in
-    let s = sender-of (o .value) (c .args .self .now) (c .args .frontier .now) (c .args .counts .now) (queued (g .D·Same .value) (o .value) (g .R·Same .value) (c .args .self .now .updates) (c .args .queue .now)) [] in
+    let s = sender-of (g .D·Same .value) (o .value) (g .R·Same .value) (c .args .self .now) (c .args .frontier .now) (c .args .counts .now) (c .args .queue .now) [] in
     let tables = record-tables (length (c .args .frontier .now)) (length (c .args .counts .now)) (length (c .args .queue .now)) (length (c .args .scratch .now)) in
-    let long : tables ≡ true = tables-yes _ _ _ _ (c .if-frontier-lt-FRONTIER-SIZE .left) (c .if-counts-lt-SENDER-COUNTS .left) (c .if-queue-lt-QUEUE-MESSAGES .left) (c .if-scratch-lt-SCRATCH-COUNTS .left) in
+    let long : tables ≡ true = sizes-yes _ _ _ _ (c .if-frontier-lt-FRONTIER-SIZE .left) (c .if-counts-lt-SENDER-COUNTS .left) (c .if-queue-lt-QUEUE-MESSAGES .left) (le-leb 1024 (length (c .args .scratch .now)) (c .if-scratch-lt-SCRATCH-COUNTS .left)) in
     let few : short-changes cs ≡ true = sym (short-changes-of (g .D·Same .value) (o .value) (g .R·Same .value) (c .args .changes .now)) ∙ le-leb (length (c .args .changes .now)) 64 (c .if-changes-gt-MESSAGE-CHANGES .left) in
     let beyond : c .all-beyond .result ≡ all-beyond k tables cs s = c .all-beyond .ensures ∙ beyond-part (o .below) (o .value) cs (c .args .frontier .now) (c .args .self .now .frontier) in
     let start : in-use (counted (o .value)) (c .args .self .now .counts) (c .copy-entries .last .to) ≡ s .counts = ap (map (counted (o .value))) (c .copy-entries .ensures .front) in
@@ -74,9 +74,9 @@ returns-then-not-fits g c =
     let o = g .T·PartialOrder in
     let k = kinds (g .D·Same .alike) (o .below) (g .T·Lattice .joined) (g .T·Timestamp .start) (g .R·Same .alike) in
     let cs = map (change-of (g .D·Same .value) (o .value) (g .R·Same .value)) (c .args .changes .now) in
-    let s = sender-of (o .value) (c .args .self .now) (c .args .frontier .now) (c .args .counts .now) (queued (g .D·Same .value) (o .value) (g .R·Same .value) (c .args .self .now .updates) (c .args .queue .now)) [] in
+    let s = sender-of (g .D·Same .value) (o .value) (g .R·Same .value) (c .args .self .now) (c .args .frontier .now) (c .args .counts .now) (c .args .queue .now) [] in
     let tables = record-tables (length (c .args .frontier .now)) (length (c .args .counts .now)) (length (c .args .queue .now)) (length (c .args .scratch .now)) in
-    let long : tables ≡ true = tables-yes _ _ _ _ (c .if-frontier-lt-FRONTIER-SIZE .left) (c .if-counts-lt-SENDER-COUNTS .left) (c .if-queue-lt-QUEUE-MESSAGES .left) (c .if-scratch-lt-SCRATCH-COUNTS .left) in
+    let long : tables ≡ true = sizes-yes _ _ _ _ (c .if-frontier-lt-FRONTIER-SIZE .left) (c .if-counts-lt-SENDER-COUNTS .left) (c .if-queue-lt-QUEUE-MESSAGES .left) (le-leb 1024 (length (c .args .scratch .now)) (c .if-scratch-lt-SCRATCH-COUNTS .left)) in
     let few : short-changes cs ≡ true = sym (short-changes-of (g .D·Same .value) (o .value) (g .R·Same .value) (c .args .changes .now)) ∙ le-leb (length (c .args .changes .now)) 64 (c .if-changes-gt-MESSAGE-CHANGES .left) in
     let beyond : c .all-beyond .result ≡ all-beyond k tables cs s = c .all-beyond .ensures ∙ beyond-part (o .below) (o .value) cs (c .args .frontier .now) (c .args .self .now .frontier) in
     let start : in-use (counted (o .value)) (c .args .self .now .counts) (c .copy-entries .last .to) ≡ s .counts = ap (map (counted (o .value))) (c .copy-entries .ensures .front) in
@@ -91,9 +91,9 @@ returns-then-self-ge-QUEUE-MESSAGES g c =
     let o = g .T·PartialOrder in
     let k = kinds (g .D·Same .alike) (o .below) (g .T·Lattice .joined) (g .T·Timestamp .start) (g .R·Same .alike) in
     let cs = map (change-of (g .D·Same .value) (o .value) (g .R·Same .value)) (c .args .changes .now) in
-    let s = sender-of (o .value) (c .args .self .now) (c .args .frontier .now) (c .args .counts .now) (queued (g .D·Same .value) (o .value) (g .R·Same .value) (c .args .self .now .updates) (c .args .queue .now)) [] in
+    let s = sender-of (g .D·Same .value) (o .value) (g .R·Same .value) (c .args .self .now) (c .args .frontier .now) (c .args .counts .now) (c .args .queue .now) [] in
     let tables = record-tables (length (c .args .frontier .now)) (length (c .args .counts .now)) (length (c .args .queue .now)) (length (c .args .scratch .now)) in
-    let long : tables ≡ true = tables-yes _ _ _ _ (c .if-frontier-lt-FRONTIER-SIZE .left) (c .if-counts-lt-SENDER-COUNTS .left) (c .if-queue-lt-QUEUE-MESSAGES .left) (c .if-scratch-lt-SCRATCH-COUNTS .left) in
+    let long : tables ≡ true = sizes-yes _ _ _ _ (c .if-frontier-lt-FRONTIER-SIZE .left) (c .if-counts-lt-SENDER-COUNTS .left) (c .if-queue-lt-QUEUE-MESSAGES .left) (le-leb 1024 (length (c .args .scratch .now)) (c .if-scratch-lt-SCRATCH-COUNTS .left)) in
     let few : short-changes cs ≡ true = sym (short-changes-of (g .D·Same .value) (o .value) (g .R·Same .value) (c .args .changes .now)) ∙ le-leb (length (c .args .changes .now)) 64 (c .if-changes-gt-MESSAGE-CHANGES .left) in
     let beyond : c .all-beyond .result ≡ all-beyond k tables cs s = c .all-beyond .ensures ∙ beyond-part (o .below) (o .value) cs (c .args .frontier .now) (c .args .self .now .frontier) in
     let start : in-use (counted (o .value)) (c .args .self .now .counts) (c .copy-entries .last .to) ≡ s .counts = ap (map (counted (o .value))) (c .copy-entries .ensures .front) in
@@ -109,9 +109,9 @@ returns g c =
     let o = g .T·PartialOrder in
     let k = kinds (g .D·Same .alike) (o .below) (g .T·Lattice .joined) (g .T·Timestamp .start) (g .R·Same .alike) in
     let cs = map (change-of (g .D·Same .value) (o .value) (g .R·Same .value)) (c .args .changes .now) in
-    let s = sender-of (o .value) (c .args .self .now) (c .args .frontier .now) (c .args .counts .now) (queued (g .D·Same .value) (o .value) (g .R·Same .value) (c .args .self .now .updates) (c .args .queue .now)) [] in
+    let s = sender-of (g .D·Same .value) (o .value) (g .R·Same .value) (c .args .self .now) (c .args .frontier .now) (c .args .counts .now) (c .args .queue .now) [] in
     let tables = record-tables (length (c .args .frontier .now)) (length (c .args .counts .now)) (length (c .args .queue .now)) (length (c .args .scratch .now)) in
-    let long : tables ≡ true = tables-yes _ _ _ _ (c .if-frontier-lt-FRONTIER-SIZE .left) (c .if-counts-lt-SENDER-COUNTS .left) (c .if-queue-lt-QUEUE-MESSAGES .left) (c .if-scratch-lt-SCRATCH-COUNTS .left) in
+    let long : tables ≡ true = sizes-yes _ _ _ _ (c .if-frontier-lt-FRONTIER-SIZE .left) (c .if-counts-lt-SENDER-COUNTS .left) (c .if-queue-lt-QUEUE-MESSAGES .left) (le-leb 1024 (length (c .args .scratch .now)) (c .if-scratch-lt-SCRATCH-COUNTS .left)) in
     let few : short-changes cs ≡ true = sym (short-changes-of (g .D·Same .value) (o .value) (g .R·Same .value) (c .args .changes .now)) ∙ le-leb (length (c .args .changes .now)) 64 (c .if-changes-gt-MESSAGE-CHANGES .left) in
     let beyond : c .all-beyond .result ≡ all-beyond k tables cs s = c .all-beyond .ensures ∙ beyond-part (o .below) (o .value) cs (c .args .frontier .now) (c .args .self .now .frontier) in
     let start : in-use (counted (o .value)) (c .args .self .now .counts) (c .copy-entries .last .to) ≡ s .counts = ap (map (counted (o .value))) (c .copy-entries .ensures .front) in
