@@ -4,3 +4,5 @@ pub mod Fielding
 pub mod Reading
 pub mod Adding
 pub mod Opening
+pub mod Spelling
+pub mod RoundTrip

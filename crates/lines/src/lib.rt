@@ -6,6 +6,7 @@ mod line;
 mod line_reader;
 mod numbers;
 mod part;
+mod round_trip;
 mod statement;
 mod updates;
 
@@ -16,6 +17,7 @@ pub use line::Line;
 pub use line::read_line;
 pub use line_reader::LineReader;
 pub use numbers::number;
+pub use round_trip::reads_back;
 use timetable::Week;
 
 // A planning round and a week of it.
