@@ -2,16 +2,20 @@
 mod block;
 mod cuts;
 mod fields;
+mod file;
 mod line;
 mod line_reader;
 mod numbers;
 mod part;
 mod round_trip;
 mod statement;
+#[cfg(test)]
+mod tests;
 mod updates;
 
 pub use block::MessageBlock;
 pub use cuts::cut;
+pub use file::check_lines;
 use lattice::Product;
 pub use line::Line;
 pub use line::read_line;
