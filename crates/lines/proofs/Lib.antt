@@ -6,3 +6,4 @@ pub mod Adding
 pub mod Opening
 pub mod Spelling
 pub mod RoundTrip
+pub mod Putting

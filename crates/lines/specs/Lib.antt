@@ -8,3 +8,4 @@ pub mod Ahead
 pub mod Statements
 pub mod Blocks
 pub mod Writing
+pub mod Puts

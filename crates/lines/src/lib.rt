@@ -12,6 +12,7 @@ mod statement;
 #[cfg(test)]
 mod tests;
 mod updates;
+mod writing;
 
 pub use block::MessageBlock;
 pub use cuts::cut;
