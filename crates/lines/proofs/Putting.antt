@@ -13,7 +13,14 @@ use lib.IntN.{ℤ, pos, negsuc, natAbs}
 use lib.Signed.{_<ℤ_}
 use Rattle.std.proofs.shelf.Signed.{ints}
 use Rattle.std.proofs.shelf.Decimals.{decimal-digit}
-use Rattle.lines.specs.Puts.{Puts}
+use Rattle.lattice.specs.declared.product.Product.{Product}
+use Rattle.timetable.specs.declared.week.Week.{Week}
+use Rattle.timetable.specs.declared.lesson.Lesson.{Lesson}
+use Rattle.timetable.specs.declared.amount.Amount.{Amount}
+use Rattle.timetable.specs.Weeks.{week-value}
+use Rattle.timetable.specs.Lessons.{lesson-value, amount-value}
+use Rattle.lines.specs.Puts.{number-text, change-line, Puts}
+use Rattle.lines.specs.Writing.{number-before, line-of}
 
 pub puts-as : (r : Option ℕ) (b a : List ℕ) (at : ℕ) (s t : List ℕ) → s ≡ t → Puts r b a at s → Puts r b a at t
 puts-as r b a at s t e h = subst (λ l. Puts r b a at l) e h
@@ -50,20 +57,20 @@ module _ {X : Type 0} (f : X → List ℕ) where
   joined-map g [] = refl
   joined-map g (y ∷ ys) = ap (λ l. f (g y) ++ l) (joined-map g ys)
 
-  module _ (xs : List X) (i : ℕ) (x : X) (h : i < length xs) (read : x ≡ getD xs i x) where
-    next-joined : joined f (take (i + 1) xs) ≡ joined f (take i xs) ++ f x
-    next-joined = ap (joined f) (take-more xs i x h ∙ ap (λ y. take i xs ++ y ∷ []) (sym read)) ∙ joined-append (take i xs) (x ∷ []) ∙ ap (λ l. joined f (take i xs) ++ l) (append-nil (f x))
+  module _ (xs : List X) (i : ℕ) (d : X) (h : i < length xs) where
+    next-joined : joined f (take (i + 1) xs) ≡ joined f (take i xs) ++ f (getD xs i d)
+    next-joined = ap (joined f) (take-more xs i d h) ∙ joined-append (take i xs) (getD xs i d ∷ []) ∙ ap (λ l. joined f (take i xs) ++ l) (append-nil (f (getD xs i d)))
 
     -- one text more of a list of texts
-    pub puts-next : (b m a : List ℕ) (at end e : ℕ) → Puts (Some end) b m at (joined f (take i xs)) → Puts (Some e) m a end (f x) → Puts (Some e) b a at (joined f (take (i + 1) xs))
-    puts-next b m a at end e p q = puts-as (Some e) b a at _ _ (sym next-joined) (puts-then (Some e) b m a at end (joined f (take i xs)) (f x) p q)
+    pub puts-next : (b m a : List ℕ) (at end e : ℕ) → Puts (Some end) b m at (joined f (take i xs)) → Puts (Some e) m a end (f (getD xs i d)) → Puts (Some e) b a at (joined f (take (i + 1) xs))
+    puts-next b m a at end e p q = puts-as (Some e) b a at _ _ (sym next-joined) (puts-then (Some e) b m a at end (joined f (take i xs)) (f (getD xs i d)) p q)
 
     -- the next text does not fit, and so not all of them
-    pub puts-no-more : (b m a : List ℕ) (at end : ℕ) → Puts (Some end) b m at (joined f (take i xs)) → Puts None m a end (f x) → Puts None b a at (joined f xs)
+    pub puts-no-more : (b m a : List ℕ) (at end : ℕ) → Puts (Some end) b m at (joined f (take i xs)) → Puts None m a end (f (getD xs i d)) → Puts None b a at (joined f xs)
     puts-no-more b m a at end p q =
-        puts-as None b a at ((joined f (take i xs) ++ f x) ++ joined f (drop (i + 1) xs)) (joined f xs)
+        puts-as None b a at ((joined f (take i xs) ++ f (getD xs i d)) ++ joined f (drop (i + 1) xs)) (joined f xs)
         (ap (λ l. l ++ joined f (drop (i + 1) xs)) (sym next-joined) ∙ sym (joined-append (take (i + 1) xs) (drop (i + 1) xs)) ∙ ap (joined f) (take-append-drop (i + 1) xs))
-        (puts-stop b a at (joined f (take i xs) ++ f x) (joined f (drop (i + 1) xs)) (puts-then None b m a at end (joined f (take i xs)) (f x) p q))
+        (puts-stop b a at (joined f (take i xs) ++ f (getD xs i d)) (joined f (drop (i + 1) xs)) (puts-then None b m a at end (joined f (take i xs)) (f (getD xs i d)) p q))
 
   -- all texts were put
   pub puts-all : (xs : List X) (i : ℕ) (b a : List ℕ) (at end : ℕ) → length xs ≤ i → Puts (Some end) b a at (joined f (take i xs)) → Puts (Some end) b a at (joined f xs)
@@ -75,3 +82,18 @@ one-digit n h = let same : n % 10 ≡ n = omega arith in ap (λ d. (48 + d) ∷ 
 pub minus-text : (z : ℤ) (m : ℕ) → z <ℤ pos 0 → m ≡ natAbs z → 45 ∷ decimal m ≡ signed z
 minus-text (pos n) m h e = absurd (omega (arith, ints, h))
 minus-text (negsuc n) m h e = ap (λ k. 45 ∷ decimal k) e
+
+-- the two pieces of a change's line
+pub change-pieces : (n₁ n₂ n₃ n₄ n₅ : ℕ) (s : List ℕ) → (85 ∷ joined number-text (n₁ ∷ n₂ ∷ n₃ ∷ n₄ ∷ n₅ ∷ [])) ++ (9 ∷ (s ++ 10 ∷ [])) ≡ line-of (85 ∷ number-before n₁ (number-before n₂ (number-before n₃ (number-before n₄ (number-before n₅ (9 ∷ s))))))
+change-pieces n₁ n₂ n₃ n₄ n₅ s = simp append-assoc
+
+pub change-written : (change : Lesson × Product ℕ Week × Amount) (w c r p : ℕ) (z : ℤ) → w ≡ week-value (change .1 .inner) → c ≡ lesson-value (change .0) .0 → r ≡ lesson-value (change .0) .1 → p ≡ lesson-value (change .0) .2 → z ≡ amount-value (change .2) → (85 ∷ joined number-text (change .1 .outer ∷ w ∷ c ∷ r ∷ p ∷ [])) ++ (9 ∷ (signed z ++ 10 ∷ [])) ≡ change-line change
+change-written change w c r p z ew ec er ep ez =
+    let n = change .1 .outer in
+    let F : ℕ → ℕ → ℕ → ℕ → ℤ → List ℕ = λ w c r p z. line-of (85 ∷ number-before n (number-before w (number-before c (number-before r (number-before p (9 ∷ signed z)))))) in
+    change-pieces n w c r p (signed z)
+    ∙ ap (λ v. F v c r p z) ew
+    ∙ ap (λ v. F (week-value (change .1 .inner)) v r p z) ec
+    ∙ ap (λ v. F (week-value (change .1 .inner)) (lesson-value (change .0) .0) v p z) er
+    ∙ ap (λ v. F (week-value (change .1 .inner)) (lesson-value (change .0) .0) (lesson-value (change .0) .1) v z) ep
+    ∙ ap (λ v. F (week-value (change .1 .inner)) (lesson-value (change .0) .0) (lesson-value (change .0) .1) (lesson-value (change .0) .2) v) ez

@@ -51,11 +51,7 @@ const WELL_FORMED: [(&str, usize); 4] = [
 ];
 
 fn empty_block() -> Result<MessageBlock, Fail> {
-    Ok(MessageBlock::new((
-        Lesson::new(1, 1, 1)?,
-        Time::minimum(),
-        Amount::new(0)?,
-    )))
+    Ok(MessageBlock::new((Lesson::new(1, 1, 1)?, Time::minimum(), Amount::new(0)?)))
 }
 
 #[test]

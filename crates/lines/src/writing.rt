@@ -8,11 +8,16 @@ ghost use Prim.Native.Nat.{_≤_};
 ghost use lib.ListN.{length};
 ghost use Rattle.std.specs.Joined.{joined};
 ghost use Rattle.std.specs.Written.{decimal, signed};
-ghost use Rattle.lines.specs.Puts.{number-text, Puts};
+ghost use Rattle.lines.specs.Puts.{number-text, change-line, time-line, count-line, Puts};
 ghost use Rattle.lines.specs.Writing.{line-of};
+use crate::Time;
+use timetable::Amount;
+use timetable::Lesson;
 
 const TAB: u8 = 9;
+
 const LINE_END: u8 = 10;
+
 const MINUS: u8 = 45;
 
 fn put_byte(out: &mut [u8], at: usize, byte: u8) -> Option<usize>
@@ -58,12 +63,19 @@ fn put_numbers(out: &mut [u8], at: usize, numbers: &[u64]) -> Option<usize>
     Some(end)
 }
 
-// A letter, numbers with tabs before them, and the end of the line.
+// A letter, and numbers with tabs before them.
+fn put_head(out: &mut [u8], at: usize, letter: u8, numbers: &[u64]) -> Option<usize>
+    ensures { λ r. ⌜ Puts r (now (out .entry)) (now (out .exit)) at (letter ∷ joined number-text (now (numbers .entry))) ⌝ }
+{
+    let end = put_byte(out, at, letter)?;
+    put_numbers(out, end, numbers)
+}
+
+// A line of a letter and numbers.
 fn put_line(out: &mut [u8], at: usize, letter: u8, numbers: &[u64]) -> Option<usize>
     ensures { λ r. ⌜ Puts r (now (out .entry)) (now (out .exit)) at (line-of (letter ∷ joined number-text (now (numbers .entry)))) ⌝ }
 {
-    let first = put_byte(out, at, letter)?;
-    let end = put_numbers(out, first, numbers)?;
+    let end = put_head(out, at, letter, numbers)?;
     put_byte(out, end, LINE_END)
 }
 
@@ -76,4 +88,77 @@ fn put_signed(out: &mut [u8], at: usize, n: i16) -> Option<usize>
     }
     let end = put_byte(out, at, MINUS)?;
     put_decimal(out, end, n.unsigned_abs() as u64)
+}
+
+// The amount of a change, with the tab before it, and the end of the line.
+fn put_amount(out: &mut [u8], at: usize, n: i16) -> Option<usize>
+    ensures { λ r. ⌜ Puts r (now (out .entry)) (now (out .exit)) at (9 ∷ (signed n ++ 10 ∷ [])) ⌝ }
+{
+    let sign = put_byte(out, at, TAB)?;
+    let end = put_signed(out, sign, n)?;
+    put_byte(out, end, LINE_END)
+}
+
+fn put_change(out: &mut [u8], at: usize, change: (Lesson, Time, Amount)) -> Option<usize>
+    ensures { λ r. ⌜ Puts r (now (out .entry)) (now (out .exit)) at (change-line change) ⌝ }
+{
+    let (lesson, time, amount) = change;
+    let round = time.outer;
+    let week = time.inner.number() as u64;
+    let class = lesson.class() as u64;
+    let room = lesson.room() as u64;
+    let period = lesson.period() as u64;
+    let end = put_head(out, at, b'U', &[round, week, class, room, period])?;
+    put_amount(out, end, amount.number())
+}
+
+fn put_time(out: &mut [u8], at: usize, letter: u8, time: Time) -> Option<usize>
+    ensures { λ r. ⌜ Puts r (now (out .entry)) (now (out .exit)) at (time-line letter time) ⌝ }
+{
+    put_line(out, at, letter, &[time.outer, time.inner.number() as u64])
+}
+
+fn put_count(out: &mut [u8], at: usize, count: (Time, u32)) -> Option<usize>
+    ensures { λ r. ⌜ Puts r (now (out .entry)) (now (out .exit)) at (count-line count) ⌝ }
+{
+    let (time, n) = count;
+    put_line(
+        out,
+        at,
+        b'C',
+        &[time.outer, time.inner.number() as u64, n as u64],
+    )
+}
+
+fn put_changes(out: &mut [u8], at: usize, changes: &[(Lesson, Time, Amount)]) -> Option<usize>
+    requires { ⌜ at ≤ length (now out) ⌝ }
+    ensures { λ r. ⌜ Puts r (now (out .entry)) (now (out .exit)) at (joined change-line (now (changes .entry))) ⌝ }
+{
+    let mut end = at;
+    for change in changes {
+        end = put_change(out, end, *change)?;
+    }
+    Some(end)
+}
+
+fn put_times(out: &mut [u8], at: usize, letter: u8, times: &[Time]) -> Option<usize>
+    requires { ⌜ at ≤ length (now out) ⌝ }
+    ensures { λ r. ⌜ Puts r (now (out .entry)) (now (out .exit)) at (joined (time-line letter) (now (times .entry))) ⌝ }
+{
+    let mut end = at;
+    for time in times {
+        end = put_time(out, end, letter, *time)?;
+    }
+    Some(end)
+}
+
+fn put_counts(out: &mut [u8], at: usize, counts: &[(Time, u32)]) -> Option<usize>
+    requires { ⌜ at ≤ length (now out) ⌝ }
+    ensures { λ r. ⌜ Puts r (now (out .entry)) (now (out .exit)) at (joined count-line (now (counts .entry))) ⌝ }
+{
+    let mut end = at;
+    for count in counts {
+        end = put_count(out, end, *count)?;
+    }
+    Some(end)
 }
