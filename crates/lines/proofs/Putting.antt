@@ -19,8 +19,12 @@ use Rattle.timetable.specs.declared.lesson.Lesson.{Lesson}
 use Rattle.timetable.specs.declared.amount.Amount.{Amount}
 use Rattle.timetable.specs.Weeks.{week-value}
 use Rattle.timetable.specs.Lessons.{lesson-value, amount-value}
-use Rattle.lines.specs.Puts.{number-text, change-line, Puts}
-use Rattle.lines.specs.Writing.{number-before, line-of}
+use Rattle.capture.specs.Messages.{changes, statement}
+use Rattle.capture.specs.Views.{change-of, count-of, statement-of}
+use Rattle.capture.specs.declared.message.Progress.{Progress as StatementView}
+use Rattle.lines.specs.Values.{time-value}
+use Rattle.lines.specs.Puts.{number-text, change-line, time-line, count-line, Puts}
+use Rattle.lines.specs.Writing.{number-before, line-of, change-text, time-text, count-text, lines-of}
 
 pub puts-as : (r : Option ℕ) (b a : List ℕ) (at : ℕ) (s t : List ℕ) → s ≡ t → Puts r b a at s → Puts r b a at t
 puts-as r b a at s t e h = subst (λ l. Puts r b a at l) e h
@@ -97,3 +101,16 @@ change-written change w c r p z ew ec er ep ez =
     ∙ ap (λ v. F (week-value (change .1 .inner)) (lesson-value (change .0) .0) v p z) er
     ∙ ap (λ v. F (week-value (change .1 .inner)) (lesson-value (change .0) .0) (lesson-value (change .0) .1) v z) ep
     ∙ ap (λ v. F (week-value (change .1 .inner)) (lesson-value (change .0) .0) (lesson-value (change .0) .1) (lesson-value (change .0) .2) v) ez
+
+-- the lists of a message, by what they hold and by what that reads as
+pub changes-written : (cs : List (Lesson × Product ℕ Week × Amount)) → line-of (82 ∷ []) ++ (joined change-line cs ++ line-of (69 ∷ [])) ≡ lines-of (changes (map (change-of lesson-value time-value amount-value) cs))
+changes-written cs = ap (λ l. line-of (82 ∷ []) ++ (l ++ line-of (69 ∷ []))) (sym (joined-map (λ c. line-of (change-text c)) (change-of lesson-value time-value amount-value) cs))
+
+pub statement-written : (s : StatementView (Product ℕ Week)) → line-of (83 ∷ []) ++ (joined (time-line 76) (s .lower .now) ++ (joined (time-line 72) (s .upper .now) ++ (joined count-line (s .counts .now) ++ line-of (69 ∷ [])))) ≡ lines-of (statement (statement-of time-value s))
+statement-written s =
+    let L = joined (λ t. line-of (time-text 76 t)) (map time-value (s .lower .now)) in
+    let H = joined (λ t. line-of (time-text 72 t)) (map time-value (s .upper .now)) in
+    let E = line-of (69 ∷ []) in
+    ap (λ l. line-of (83 ∷ []) ++ (l ++ (joined (time-line 72) (s .upper .now) ++ (joined count-line (s .counts .now) ++ E)))) (sym (joined-map (λ t. line-of (time-text 76 t)) time-value (s .lower .now)))
+    ∙ ap (λ h. line-of (83 ∷ []) ++ (L ++ (h ++ (joined count-line (s .counts .now) ++ E)))) (sym (joined-map (λ t. line-of (time-text 72 t)) time-value (s .upper .now)))
+    ∙ ap (λ k. line-of (83 ∷ []) ++ (L ++ (H ++ (k ++ E)))) (sym (joined-map (λ c. line-of (count-text c)) (count-of time-value) (s .counts .now)))

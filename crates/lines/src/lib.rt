@@ -24,6 +24,7 @@ pub use line_reader::LineReader;
 pub use numbers::number;
 pub use round_trip::reads_back;
 use timetable::Week;
+pub use writing::write_message;
 
 // A planning round and a week of it.
 pub type Time = Product<u64, Week>;

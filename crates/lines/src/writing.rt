@@ -9,8 +9,12 @@ ghost use lib.ListN.{length};
 ghost use Rattle.std.specs.Joined.{joined};
 ghost use Rattle.std.specs.Written.{decimal, signed};
 ghost use Rattle.lines.specs.Puts.{number-text, change-line, time-line, count-line, Puts};
-ghost use Rattle.lines.specs.Writing.{line-of};
+ghost use Rattle.lines.specs.Writing.{line-of, lines-of};
+ghost use Rattle.timetable.specs.Lessons.{lesson-value, amount-value};
+ghost use Rattle.capture.specs.Views.{message-of};
+ghost use Rattle.lines.specs.Values.{time-value};
 use crate::Time;
+use capture::Message;
 use timetable::Amount;
 use timetable::Lesson;
 
@@ -161,4 +165,45 @@ fn put_counts(out: &mut [u8], at: usize, counts: &[(Time, u32)]) -> Option<usize
         end = put_count(out, end, *count)?;
     }
     Some(end)
+}
+
+fn put_updates(out: &mut [u8], at: usize, changes: &[(Lesson, Time, Amount)]) -> Option<usize>
+    ensures { λ r. ⌜ Puts r (now (out .entry)) (now (out .exit)) at (line-of (82 ∷ []) ++ (joined change-line (now (changes .entry)) ++ line-of (69 ∷ []))) ⌝ }
+{
+    let first = put_line(out, at, b'R', &[])?;
+    let end = put_changes(out, first, changes)?;
+    put_line(out, end, b'E', &[])
+}
+
+fn put_progress(
+    out: &mut [u8],
+    at: usize,
+    lower: &[Time],
+    upper: &[Time],
+    counts: &[(Time, u32)],
+) -> Option<usize>
+    ensures { λ r. ⌜ Puts r (now (out .entry)) (now (out .exit)) at (line-of (83 ∷ []) ++ (joined (time-line 76) (now (lower .entry)) ++ (joined (time-line 72) (now (upper .entry)) ++ (joined count-line (now (counts .entry)) ++ line-of (69 ∷ []))))) ⌝ }
+{
+    let first = put_line(out, at, b'S', &[])?;
+    let second = put_times(out, first, b'L', lower)?;
+    let third = put_times(out, second, b'H', upper)?;
+    let end = put_counts(out, third, counts)?;
+    put_line(out, end, b'E', &[])
+}
+
+// Writes a message as lines behind the first `at` bytes, and tells where they end; or that they
+// do not fit, and then the first `at` bytes are as before.
+pub fn write_message(
+    out: &mut [u8],
+    at: usize,
+    message: Message<'_, Lesson, Time, Amount>,
+) -> Option<usize>
+    ensures { λ r. ⌜ Puts r (now (out .entry)) (now (out .exit)) at (lines-of (message-of lesson-value time-value amount-value (message .entry))) ⌝ }
+{
+    match message {
+        Message::Updates(changes) => put_updates(out, at, changes),
+        Message::Progress(statement) => {
+            put_progress(out, at, statement.lower, statement.upper, statement.counts)
+        }
+    }
 }
