@@ -1,6 +1,6 @@
 -- The line that opens a message, and the end of a file.
 use mathlib.Core.Path.{_≡_, refl, ap, _∙_}
-use mathlib.Core.List.{List, [], _∷_}
+use mathlib.Core.List.{List, [], _∷_, _++_}
 use mathlib.Core.Bool.{Bool, true, false}
 use Prim.Native.Nat.{ℕ, suc, _+_, _<_}
 use native.Mathlib.Omega.{arith}
@@ -11,7 +11,7 @@ use Rattle.std.specs.declared.result.Result.{Result}
 use Rattle.std.specs.declared.result.Result.the-variants.{Ok, Err}
 use Rattle.std.proofs.shelf.Tests.{true≢false, eqb-true}
 use Rattle.lines.specs.Said.{line-value}
-use Rattle.lines.specs.Format.{LessonMessage, Draft, outside, stops, step, closes}
+use Rattle.lines.specs.Format.{LessonMessage, Draft, outside, stops, step, closes, with-message}
 use Rattle.lines.specs.Ahead.{left, ahead}
 use Rattle.lines.specs.Blocks.{Reads, Got}
 use Rattle.lines.specs.declared.line.Line.{Line}
@@ -42,3 +42,20 @@ pub opened-on : (r : Result Bool ℕ) (before mid after : LineReader) (b : Messa
 opened-on (Ok true) before mid after b d e less h = (h .1 .0, record { said = e ∙ h .1 .1 .said; kept = h .1 .1 .kept; whole = h .1 .1 .whole; on = omega (arith, less, h .1 .1 .on) })
 opened-on (Ok false) before mid after b d e less h = let z : _≡_ {A = ℕ} 0 1 = cc (h .0) in absurd (omega arith)
 opened-on (Err n) before mid after b d e less h = e ∙ h
+
+-- messages before those that follow them
+abbrev pub with-messages : List LessonMessage → Result (List LessonMessage) ℕ → Result (List LessonMessage) ℕ
+with-messages [] r = r
+with-messages (m ∷ ms) r = with-message m (with-messages ms r)
+
+pub with-one-more : (ms : List LessonMessage) (m : LessonMessage) (r : Result (List LessonMessage) ℕ) → with-messages ms (with-message m r) ≡ with-messages (ms ++ m ∷ []) r
+with-one-more [] m r = refl
+with-one-more (n ∷ ms) m r = ap (with-message n) (with-one-more ms m r)
+
+pub with-all : (ms : List LessonMessage) → with-messages ms (Ok []) ≡ Ok ms
+with-all [] = refl
+with-all (m ∷ ms) = ap (with-message m) (with-all ms)
+
+pub with-error : (ms : List LessonMessage) (n : ℕ) → with-messages ms (Err n) ≡ Err n
+with-error [] n = refl
+with-error (m ∷ ms) n = ap (with-message m) (with-error ms n)

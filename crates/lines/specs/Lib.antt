@@ -7,3 +7,5 @@ pub mod Format
 pub mod Ahead
 pub mod Statements
 pub mod Blocks
+pub mod Writing
+pub mod Puts

@@ -1,0 +1,8 @@
+// The round trip from messages to lines and back.
+ghost use Rattle.lines.specs.Writing.{ReadsBack};
+
+// Messages that are written as lines, one after the other, are a file that says these messages in
+// their order.  It computes nothing: the contract is the theorem.
+pub fn reads_back()
+    ensures { λ _. ⌜ ReadsBack ⌝ }
+{}
