@@ -1,3 +1,4 @@
 pub mod Tables
 pub mod Taking
 pub mod Intervals
+pub mod Readers

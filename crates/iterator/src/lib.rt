@@ -4,8 +4,11 @@
 // All tables are lent to each call; the first entries of each are in use.
 mod changes;
 mod edges;
+mod held;
 pub mod statements;
 mod taking;
+
+pub use held::Held;
 
 // The entries that a table for a reader's counts has at least, and the counts that it has at most.
 pub const COUNTS_SIZE: usize = 1024;
