@@ -22,8 +22,8 @@ pub trait Writer<D: Same, T: Timestamp, R: Same>: Sized {
     ghost committed: { Self → Bool };
 
     // Offers a message: `None` where it was taken, else how many milliseconds to wait before the next offer.
-    fn poll<'a>(&mut self, item: Message<'a, D, T, R>) -> Option<u64>
-        ensures { λ r. ⌜ Polled r (ready (now (self .entry))) (taken (now (self .entry))) (message-of (D·Same .value) (T·PartialOrder .value) (R·Same .value) (item .entry)) (taken (now (self .exit))) ⌝ };
+    fn poll(&mut self, item: &Message<'_, D, T, R>) -> Option<u64>
+        ensures { λ r. ⌜ Polled r (ready (now (self .entry))) (taken (now (self .entry))) (message-of (D·Same .value) (T·PartialOrder .value) (R·Same .value) (now (item .entry))) (taken (now (self .exit))) ⌝ };
 
     // Whether all that it took is committed, so that the post can be let go.
     fn done(&self) -> bool

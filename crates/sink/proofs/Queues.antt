@@ -1,8 +1,9 @@
 -- Messages put last into a queue, and taken from its front.
-use mathlib.Core.Path.{_≡_, refl, sym, ap, _∙_}
+use mathlib.Core.Path.{_≡_, ap, subst, _∙_}
 use mathlib.Core.Bool.{Bool, true}
 use mathlib.Core.List.{List, [], _∷_, _++_, map}
-use Prim.Native.Nat.{ℕ, _+_, _-_, _<_, _≤_}
+use Prim.Native.Nat.{ℕ, _+_, _-_, _*_, _^_, _<_, _≤_}
+use native.Mathlib.Nat.{lt-of-le-of-lt, mul-le-mul-right, one-mul}
 use native.Mathlib.Omega.{arith}
 use lib.ListN.{length, take, drop, set}
 use Rattle.std.specs.declared.result.Result.{Result}
@@ -29,3 +30,7 @@ module _ {X : Type 0} (part post ys : List X) (n len : ℕ) (size : length part 
       ap (λ l. take (len - n) (l ++ post)) after
       ∙ ap (take (len - n)) (append-assoc (drop n part) (take n part) post)
       ∙ take-at (drop n part) (take n part ++ post) (len - n) (omega (arith, length-drop n part))
+
+-- an entry of a table takes no more memory than the table
+pub entry-fits : (n k : ℕ) → 0 < n → n * k < 2 ^ 63 → k < 2 ^ 63
+entry-fits n k h fits = lt-of-le-of-lt (subst (λ m. m ≤ n * k) (one-mul k) (mul-le-mul-right k h)) fits

@@ -4,6 +4,7 @@ mod counting;
 mod pump;
 mod queue;
 mod sender;
+mod table_post;
 
 pub use counting::LARGEST_COUNT;
 pub use counting::SCRATCH_COUNTS;
@@ -11,3 +12,6 @@ pub use counting::SENDER_COUNTS;
 pub use sender::FinishedSender;
 pub use sender::OpenSender;
 pub use sender::QUEUE_MESSAGES;
+pub use table_post::POST_MESSAGES;
+pub use table_post::TablePost;
+pub use table_post::TableWriter;

@@ -21,8 +21,9 @@ fn offer<D: Same + Copy, T: Timestamp + Copy, R: Same + Copy, W: Writer<D, T, R>
     ensures left { λ r. ⌜ Left (r .1) (r .0) (length (now (messages .entry))) ⌝ }
     ensures pumped { λ r. ⌜ Pumped (post-of (W·Writer .taken) (W·Writer .ready) (W·Writer .committed)) (map (stored-message (D·Same .value) (T·PartialOrder .value) (R·Same .value)) (now (messages .entry))) (now (post .entry)) (working (r .1) (W·Writer .committed (now (post .exit)))) (r .1) (map (stored-message (D·Same .value) (T·PartialOrder .value) (R·Same .value)) (drop (r .0) (now (messages .entry)))) (now (post .exit)) ⌝ }
 {
-    for (i, message) in messages.iter().enumerate() {
-        if let Some(wait) = post.poll(message.view()) {
+    for (i, stored) in messages.iter().enumerate() {
+        let message = stored.view();
+        if let Some(wait) = post.poll(&message) {
             return (i, Some(wait));
         }
     }

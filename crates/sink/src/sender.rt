@@ -5,8 +5,9 @@ ghost use Prim.Native.Nat.{_≤_};
 
 mod close;
 mod finish;
+mod finished_pumps;
 mod open;
-mod pumps;
+mod open_pumps;
 mod record;
 
 // The queue of changes, and that of statements, has at most so many messages.

@@ -13,7 +13,7 @@ returns-in-Some g c =
     let o = post (g .W·Writer .taken) (g .W·Writer .ready) (g .W·Writer .committed) in
     let reads = stored-message (g .D·Same .value) (g .T·PartialOrder .value) (g .R·Same .value) in
     let told = c .in-Some .ensures tt in
-    let is = c .view .ensures in
+    let is = c .view-message .ensures in
     record {
       left = c .loop-i-test .taken;
       pumped = waits-here o reads (c .args .messages .now) (c .args .post .now) (c .loop-i .i) (c .loop-i .post) (c .loop-i .inv) (c .index-messages-i .result) (c .loop-i-test .taken) (c .index-messages-i .is) (c .poll .last .self) (c .in-Some .wait) (ap (o .ready (c .loop-i .post)) (sym is) ∙ told .0) (told .1);
@@ -24,7 +24,7 @@ loop-i-again g c =
     let o = post (g .W·Writer .taken) (g .W·Writer .ready) (g .W·Writer .committed) in
     let reads = stored-message (g .D·Same .value) (g .T·PartialOrder .value) (g .R·Same .value) in
     let told = c .in-rest .ensures tt in
-    let is = c .view .ensures in
+    let is = c .view-message .ensures in
     taken-on o reads (c .args .messages .now) (c .args .post .now) (c .loop-i .i) (c .loop-i .post) (c .loop-i .inv) (c .index-messages-i .result) (c .loop-i-test .taken) (c .index-messages-i .is) (c .poll .last .self) (ap (o .ready (c .loop-i .post)) (sym is) ∙ told .0) (told .1 ∙ ap (λ m. o .taken (c .loop-i .post) ++ m ∷ []) is)
 
 pub returns : need.returns
