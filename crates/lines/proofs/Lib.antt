@@ -7,3 +7,4 @@ pub mod Opening
 pub mod Spelling
 pub mod RoundTrip
 pub mod Putting
+pub mod Forming

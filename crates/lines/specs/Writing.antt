@@ -1,7 +1,7 @@
 -- Messages written as lines.
 use mathlib.Core.Path.{_≡_}
 use mathlib.Core.Bool.{true}
-use mathlib.Core.List.{List, [], _∷_, _++_}
+use mathlib.Core.List.{List, [], _∷_, _++_, map}
 use Prim.Native.Nat.{ℕ, _≤_}
 use lib.IntN.{ℤ}
 use Rattle.std.specs.Joined.{joined}
@@ -9,7 +9,15 @@ use Rattle.std.specs.Written.{decimal, signed}
 use Rattle.std.specs.shelf.Lists.{All}
 use Rattle.std.specs.declared.result.Result.the-variants.{Ok}
 use Rattle.timetable.specs.Weeks.{is-week}
-use Rattle.timetable.specs.Lessons.{is-lesson, is-amount}
+use Rattle.lattice.specs.declared.product.Product.{Product}
+use Rattle.timetable.specs.declared.week.Week.{Week}
+use Rattle.timetable.specs.declared.lesson.Lesson.{Lesson}
+use Rattle.timetable.specs.declared.amount.Amount.{Amount}
+use Rattle.timetable.specs.Lessons.{is-lesson, is-amount, lesson-value, amount-value}
+use Rattle.capture.specs.Views.{message-of}
+use Rattle.capture.specs.declared.message.Message.{Message as View}
+use Rattle.capture.specs.declared.message.Message.the-variants.{Updates, Progress}
+use Rattle.lines.specs.Values.{time-value}
 use Rattle.capture.specs.Messages.{Statement, changes, statement}
 use Rattle.lines.specs.Numbers.{most}
 use Rattle.lines.specs.Format.{LessonChange, LessonMessage, file-says}
@@ -68,3 +76,12 @@ Formed (statement s) = All FormedTime (s .lower) × All FormedTime (s .upper) ×
 -- what is written reads as the messages that were written, in order
 abbrev pub ReadsBack : Type 0
 ReadsBack = (ms : List LessonMessage) → All Formed ms → file-says (joined lines-of ms) ≡ Ok ms
+
+-- the rounds of a message of the code fit 64 bits, and its counts 32, as their types have it
+abbrev pub FitsTypes : View Lesson (Product ℕ Week) Amount → Type 0
+FitsTypes (Updates cs) = All (λ c. c .1 .outer ≤ most) (cs .now)
+FitsTypes (Progress s) = All (λ t. t .outer ≤ most) (s .lower .now) × All (λ t. t .outer ≤ most) (s .upper .now) × All (λ c. (c .0 .outer ≤ most) × (c .1 ≤ 4294967295)) (s .counts .now)
+
+-- what is written of messages of the code reads as what they read as: every week, lesson and amount has its form
+abbrev pub ViewsReadBack : Type 0
+ViewsReadBack = (vs : List (View Lesson (Product ℕ Week) Amount)) → All FitsTypes vs → file-says (joined lines-of (map (message-of lesson-value time-value amount-value) vs)) ≡ Ok (map (message-of lesson-value time-value amount-value) vs)

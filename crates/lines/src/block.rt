@@ -38,6 +38,8 @@ pub struct MessageBlock {
     progress: StatementRows,
 }
 
+impl Copy for MessageBlock {}
+
 impl MessageBlock {
     // A block with a message without changes.
     pub fn new(filler: (Lesson, Time, Amount)) -> MessageBlock
