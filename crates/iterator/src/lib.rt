@@ -8,8 +8,6 @@ mod held;
 pub mod statements;
 mod taking;
 
-pub use held::Held;
-
 // The entries that a table for a reader's counts has at least, and the counts that it has at most.
 pub const COUNTS_SIZE: usize = 1024;
 // The entries that a table for waiting statements has at least, and the statements that wait at most.
