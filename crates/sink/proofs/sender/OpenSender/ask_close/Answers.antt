@@ -14,7 +14,6 @@ use Rattle.questions.proofs.Asking.{asked-all}
 use Rattle.frontier.specs.Frontiers.{leq, fits}
 use Rattle.frontier.specs.Tables.{in-use, Holds, counted, frontier-size}
 use Rattle.frontier.proofs.Tables.{sub-zero, length-in-use, refused-full, accepted}
-use Rattle.frontier.proofs.Filling.{fits-length}
 use Rattle.capture.specs.Kinds.{kinds}
 use Rattle.capture.specs.Messages.{statement}
 use Rattle.capture.specs.Statements.{small}

@@ -15,7 +15,7 @@ use Rattle.questions.proofs.Asking.{asked-all}
 use Rattle.frontier.specs.Frontiers.{leq, fits}
 use Rattle.frontier.specs.Tables.{in-use, Holds, counted, frontier-size}
 use Rattle.frontier.proofs.Tables.{sub-zero, length-in-use, refused-full, accepted}
-use Rattle.frontier.proofs.Filling.{fits-length}
+use Rattle.frontier.proofs.Filling.{fit-length, inserting}
 use Rattle.capture.specs.Kinds.{kinds}
 use Rattle.capture.specs.Messages.{statement}
 use Rattle.capture.specs.Statements.{small}
@@ -61,7 +61,7 @@ part-statement-end-2 g c =
     let others = and-parts (leb 32 (length (c .args .upper .now))) (leb 256 (length (c .args .announced .now))) (long .3) in
     let upper-long : 32 ≤ length (c .args .upper .now) = leb-true 32 (length (c .args .upper .now)) (others .0) in
     let announced-long : 256 ≤ length (c .args .announced .now) = leb-true 256 (length (c .args .announced .now)) (others .1) in
-    let few-times : c .in-Continue-n .n ≤ 32 = omega (arith, told .1 .0 .1, fits-length (o .below) frontier-size [] l (omega arith) (told-12 k tables s l (told .0))) in
+    let few-times : c .in-Continue-n .n ≤ 32 = omega (arith, told .1 .0 .1, fit-length (inserting (o .below)) [] l (omega arith) (told-12 k tables s l (told .0))) in
     let h : c .in-Continue-n .n ≤ length (c .ask-close .last .upper) = omega (arith, upper-long, few-times) in
     search needs
 
@@ -93,7 +93,7 @@ push-requires g c κs =
     let others = and-parts (leb 32 (length (c .args .upper .now))) (leb 256 (length (c .args .announced .now))) (long .3) in
     let upper-long : 32 ≤ length (c .args .upper .now) = leb-true 32 (length (c .args .upper .now)) (others .0) in
     let announced-long : 256 ≤ length (c .args .announced .now) = leb-true 256 (length (c .args .announced .now)) (others .1) in
-    let few-times : c .in-Continue-n .n ≤ 32 = omega (arith, told .1 .0 .1, fits-length (o .below) frontier-size [] l (omega arith) (told-12 k tables s l (told .0))) in
+    let few-times : c .in-Continue-n .n ≤ 32 = omega (arith, told .1 .0 .1, fit-length (inserting (o .below)) [] l (omega arith) (told-12 k tables s l (told .0))) in
     let few-counts : c .in-Continue-n .m ≤ 256 = omega (arith, told .1 .1 .1, announced-few (o .below) (reduced k l) (s .counts), length-in-use (counted (o .value)) (c .args .self .now .counts) (c .args .counts .now) (omega (arith, long .1, c .args .self .now .«few_counts»)), c .args .self .now .«few_counts») in
     let free : c .args .self .now .progress < 16 = omega (arith, ltb-true (length (s .queued-statements)) 16 (told-13 k tables s l (told .0)), length-in-use (stored-message (g .D·Same .value) (o .value) (g .R·Same .value)) (c .args .self .now .progress) (c .args .queue .now) (omega (arith, long .2, c .args .self .now .«few_progress»))) in
     (omega arith, (omega (arith, long .2, free), short-stated (o .value) (c .args .frontier .now) (c .ask-close .last .upper) (c .ask-close .last .announced) (c .args .self .now .frontier) (c .in-Continue-n .n) (c .in-Continue-n .m) (c .args .self .now .«few_times») few-times few-counts))
@@ -110,7 +110,7 @@ part-retain-end g c =
     let others = and-parts (leb 32 (length (c .args .upper .now))) (leb 256 (length (c .args .announced .now))) (long .3) in
     let upper-long : 32 ≤ length (c .args .upper .now) = leb-true 32 (length (c .args .upper .now)) (others .0) in
     let announced-long : 256 ≤ length (c .args .announced .now) = leb-true 256 (length (c .args .announced .now)) (others .1) in
-    let few-times : c .in-Continue-n .n ≤ 32 = omega (arith, told .1 .0 .1, fits-length (o .below) frontier-size [] l (omega arith) (told-12 k tables s l (told .0))) in
+    let few-times : c .in-Continue-n .n ≤ 32 = omega (arith, told .1 .0 .1, fit-length (inserting (o .below)) [] l (omega arith) (told-12 k tables s l (told .0))) in
     let h : c .in-Continue-n .n ≤ length (c .ask-close .last .upper) = omega (arith, upper-long, few-times) in
     search needs
 
@@ -140,7 +140,7 @@ copy-entries-requires g c κs =
     let others = and-parts (leb 32 (length (c .args .upper .now))) (leb 256 (length (c .args .announced .now))) (long .3) in
     let upper-long : 32 ≤ length (c .args .upper .now) = leb-true 32 (length (c .args .upper .now)) (others .0) in
     let announced-long : 256 ≤ length (c .args .announced .now) = leb-true 256 (length (c .args .announced .now)) (others .1) in
-    let few-times : c .in-Continue-n .n ≤ 32 = omega (arith, told .1 .0 .1, fits-length (o .below) frontier-size [] l (omega arith) (told-12 k tables s l (told .0))) in
+    let few-times : c .in-Continue-n .n ≤ 32 = omega (arith, told .1 .0 .1, fit-length (inserting (o .below)) [] l (omega arith) (told-12 k tables s l (told .0))) in
     (omega (arith, upper-long, few-times), omega (arith, long .0, few-times))
 
 pub ghost-self : need.ghost-self
@@ -155,7 +155,7 @@ ghost-self g c =
     let others = and-parts (leb 32 (length (c .args .upper .now))) (leb 256 (length (c .args .announced .now))) (long .3) in
     let upper-long : 32 ≤ length (c .args .upper .now) = leb-true 32 (length (c .args .upper .now)) (others .0) in
     let announced-long : 256 ≤ length (c .args .announced .now) = leb-true 256 (length (c .args .announced .now)) (others .1) in
-    let few-times : c .in-Continue-n .n ≤ 32 = omega (arith, told .1 .0 .1, fits-length (o .below) frontier-size [] l (omega arith) (told-12 k tables s l (told .0))) in
+    let few-times : c .in-Continue-n .n ≤ 32 = omega (arith, told .1 .0 .1, fit-length (inserting (o .below)) [] l (omega arith) (told-12 k tables s l (told .0))) in
     let free : c .args .self .now .progress < 16 = omega (arith, ltb-true (length (s .queued-statements)) 16 (told-13 k tables s l (told .0)), length-in-use (stored-message (g .D·Same .value) (o .value) (g .R·Same .value)) (c .args .self .now .progress) (c .args .queue .now) (omega (arith, long .2, c .args .self .now .«few_progress»))) in
     (few-times, (omega (arith, c .retain-left .ensures .within, c .args .self .now .«few_counts»), (c .args .self .now .«few_updates», (omega (arith, free), tt))))
 
