@@ -1,6 +1,6 @@
 -- What every run keeps, said of its calls and their answers.
 use Rattle.std.specs.Prelude.{◌≡◌, ℕ, ◌+◌, ◌≤◌, Bool, true, false, cond, not, ◌&&◌, ◌||◌, T, List, [], ◌∷◌, ◌++◌, Some, None, Option, ◌==◌}
-use Rattle.std.specs.Map.Invariant.{is-distinct}
+use Rattle.capture.specs.Distinct.{is_distinct}
 use Rattle.frontier.specs.Frontiers.{beyond, leq, equal}
 use Rattle.capture.specs.Kinds.{Kinds}
 use Rattle.capture.specs.Messages.{Change, Message, changes, statement, coincide, alike, has}
@@ -107,7 +107,7 @@ module _ {D A R : Type 0} (k : Kinds D A R) where
 
   -- no data stands twice in the list at one time
   abbrev pub one_each : List (Change D A R) → Bool
-  one_each cs = is-distinct (coincide k) cs
+  one_each cs = is_distinct (coincide k) cs
 
   -- the change stands in one of the messages
   abbrev pub change_accepted : Change D A R → List (Message D A R) → Bool

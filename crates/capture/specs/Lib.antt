@@ -1,3 +1,4 @@
+pub mod Distinct
 pub mod Kinds
 pub mod Sizes
 pub mod Messages

@@ -1,7 +1,7 @@
 -- How statements act on a reader's progress: on its progress frontier and on its counts.
 use Rattle.std.specs.Prelude.{ℕ, zero, suc, Bool, cond, not, ◌&&◌, List, [], ◌∷◌, ◌++◌, map, length, ℤ, pos, negsuc, Some, None, filter, Option, nat_le, nat_lt}
 use Rattle.std.specs.List.{list_all}
-use Rattle.std.specs.Map.Invariant.{is-distinct}
+use Rattle.capture.specs.Distinct.{is_distinct}
 use Rattle.lattice.specs.Orders.{at_once}
 use Rattle.frontier.specs.Frontiers.{beyond, leq, inserted_all, fits, pairwise, join}
 use Rattle.frontier.specs.Counts.{added_all, room, positives}
@@ -38,7 +38,7 @@ module _ {A : Type 0} (below : A → A → Bool) where
 
   -- no time is counted twice
   abbrev pub counted_once : List (A × ℕ) → Bool
-  counted_once cs = is-distinct (λ c e. at_once below c.0 e.0) cs
+  counted_once cs = is_distinct (λ c e. at_once below c.0 e.0) cs
 
   -- a statement whose upper is at or before the progress frontier f says nothing new, and is dropped
   abbrev pub passed : List A → Statement A → Bool

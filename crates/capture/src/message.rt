@@ -1,9 +1,10 @@
 // Messages as views over lent slices, of any length.
-ghost use Rattle.std.specs.Prelude.{◌≡◌};
+ghost use Rattle.std.specs.Prelude.{◌≡◌, ⊤};
 ghost use Rattle.capture.specs.Messages.{short, short_statement};
 ghost use Rattle.capture.specs.Views.{message_of, statement_of};
 
 use lattice::{PartialOrder, Same};
+use std::alloc::AllocError;
 
 // A message that is not too long has at most so many changes,
 pub const MESSAGE_CHANGES: usize = 64;
@@ -20,6 +21,16 @@ pub enum Message<'a, D, T, R> {
     Progress(Progress<'a, T>),
 }
 
+impl<'a, D, T, R> Clone for Message<'a, D, T, R> {
+    ghost is_clone = { λ x y. y ≡ x };
+
+    ghost is_infallible = { λ _. ⊤ };
+
+    fn clone(&self) -> Result<Message<'a, D, T, R>, AllocError> {
+        Ok(*self)
+    }
+}
+
 impl<'a, D, T, R> Copy for Message<'a, D, T, R> {}
 
 // A statement about how many distinct changes occur at the times beyond `lower` and behind `upper`.
@@ -30,6 +41,16 @@ pub struct Progress<'a, T> {
     pub upper: &'a [T],
     // how many changes occur at a time; a time that is not listed has none
     pub counts: &'a [(T, u32)],
+}
+
+impl<'a, T> Clone for Progress<'a, T> {
+    ghost is_clone = { λ x y. y ≡ x };
+
+    ghost is_infallible = { λ _. ⊤ };
+
+    fn clone(&self) -> Result<Progress<'a, T>, AllocError> {
+        Ok(*self)
+    }
 }
 
 impl<'a, T> Copy for Progress<'a, T> {}

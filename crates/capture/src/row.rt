@@ -1,8 +1,9 @@
 // Lists in stored form: a row of places, the first of them in use.
-ghost use Rattle.std.specs.Prelude.{◌≡◌, ◌≤◌, [], ◌∷◌, ◌++◌, length, take, nat_lt};
+ghost use Rattle.std.specs.Prelude.{◌≡◌, ◌≤◌, [], ◌∷◌, ◌++◌, length, take, nat_lt, ⊤};
 ghost use Rattle.capture.specs.Rows.{Stores, has_places, row};
 
 use questions::Refusal;
+use std::alloc::AllocError;
 
 // A list of at most N values, as it lies in an entry of a table.
 pub struct Row<X, const N: usize> {
@@ -10,6 +11,16 @@ pub struct Row<X, const N: usize> {
     items: [X; N],
     // how many are in use; a number over N reads as N
     len: usize,
+}
+
+impl<X: Copy, const N: usize> Clone for Row<X, N> {
+    ghost is_clone = { λ x y. y ≡ x };
+
+    ghost is_infallible = { λ _. ⊤ };
+
+    fn clone(&self) -> Result<Row<X, N>, AllocError> {
+        Ok(*self)
+    }
 }
 
 impl<X: Copy, const N: usize> Copy for Row<X, N> {}

@@ -1,7 +1,7 @@
 // Messages in stored form, one entry of a table to a message.
 //
 // Nothing about an entry is assumed: whatever it holds reads as some message that is not too long.
-ghost use Rattle.std.specs.Prelude.{◌≡◌, true, []};
+ghost use Rattle.std.specs.Prelude.{◌≡◌, true, [], ⊤};
 ghost use Rattle.capture.specs.Messages.{changes, short, short_statement};
 ghost use Rattle.capture.specs.Views.{message_of, statement_of};
 ghost use Rattle.capture.specs.Rows.{Stores};
@@ -11,6 +11,7 @@ use crate::message::{MESSAGE_CHANGES, STATEMENT_COUNTS, STATEMENT_TIMES};
 use crate::{Message, Progress, Row};
 use lattice::{PartialOrder, Same};
 use questions::Refusal;
+use std::alloc::AllocError;
 
 // The changes of a message, in stored form.
 pub type StoredUpdates<D, T, R> = Row<(D, T, R), MESSAGE_CHANGES>;
@@ -23,6 +24,16 @@ pub struct StoredProgress<T> {
     upper: Row<T, STATEMENT_TIMES>,
     // the counts
     counts: Row<(T, u32), STATEMENT_COUNTS>,
+}
+
+impl<T: Copy> Clone for StoredProgress<T> {
+    ghost is_clone = { λ x y. y ≡ x };
+
+    ghost is_infallible = { λ _. ⊤ };
+
+    fn clone(&self) -> Result<StoredProgress<T>, AllocError> {
+        Ok(*self)
+    }
 }
 
 impl<T: Copy> Copy for StoredProgress<T> {}
@@ -80,6 +91,16 @@ pub struct StoredMessage<D, T, R> {
     updates: StoredUpdates<D, T, R>,
     // the statement
     progress: StoredProgress<T>,
+}
+
+impl<D: Copy, T: Copy, R: Copy> Clone for StoredMessage<D, T, R> {
+    ghost is_clone = { λ x y. y ≡ x };
+
+    ghost is_infallible = { λ _. ⊤ };
+
+    fn clone(&self) -> Result<StoredMessage<D, T, R>, AllocError> {
+        Ok(*self)
+    }
 }
 
 impl<D: Copy, T: Copy, R: Copy> Copy for StoredMessage<D, T, R> {}

@@ -11,7 +11,7 @@ use questions::Refusal;
 
 // How many times of the list are not at or after the time.
 fn count_without<T: PartialOrder>(list: &[T], time: &T) -> usize
-    ensures { result ≡ length (without below (value time.now) (map value list.now)) }
+    ensures { result ≡ length (without T.below (T.value time.now) (map T.value list.now)) }
 {
     let mut n = 0usize;
     for e in list {
@@ -27,7 +27,7 @@ fn count_without<T: PartialOrder>(list: &[T], time: &T) -> usize
 fn keep_without<T: PartialOrder + Copy>(table: &mut [T], len: usize, time: &T) -> usize
     requires { len ≤ length table.old }
     ensures within { result ≤ len }
-    ensures after { Holds value result table.new (without below (value time.now) (in_use value len table.old)) }
+    ensures after { Holds T.value result table.new (without T.below (T.value time.now) (in_use T.value len table.old)) }
     ensures rest { drop len table.new ≡ drop len table.old }
 {
     let mut k = 0usize;
@@ -49,11 +49,11 @@ pub fn insert<T: PartialOrder + Copy>(
     time: T,
 ) -> Result<usize, Refusal>
     ensures answer { Answered result
-        (frontier_asks (length table.old) len (nat_le (length (inserted below (in_use value len table.old) (value time))) frontier_size))
-        (λ n. Holds value n table.new (inserted below (in_use value len table.old) (value time)))
+        (frontier_asks (length table.old) len (nat_le (length (inserted T.below (in_use T.value len table.old) (T.value time))) frontier_size))
+        (λ n. Holds T.value n table.new (inserted T.below (in_use T.value len table.old) (T.value time)))
         (table.new ≡ table.old) }
     ensures rest { drop frontier_size table.new ≡ drop frontier_size table.old }
-    ensures law { InsertKeeps below }
+    ensures law { InsertKeeps T.below }
 {
     if len > FRONTIER_SIZE || table.len() < FRONTIER_SIZE {
         return Err(Refusal::ShortTable);

@@ -10,7 +10,7 @@ use questions::Refusal;
 
 // The place of the time's entry, or the table's length where it has none.
 fn find<T: PartialOrder>(table: &[(T, i64)], time: &T) -> usize
-    ensures { result ≡ prefix_len (other below (value time.now)) (map (counted value) table.now) }
+    ensures { result ≡ prefix_len (other T.below (T.value time.now)) (map (counted T.value) table.now) }
 {
     for (i, e) in table.iter().enumerate() {
         if same_time(&e.0, time) {
@@ -58,8 +58,8 @@ pub fn update<T: PartialOrder + Copy>(
     amount: i64,
 ) -> Result<usize, Refusal>
     ensures answer { Answered result
-        (table_asks limit 11 (length table.old) len (nat_le (length (added below (in_use (counted value) len table.old) (value time) amount)) limit))
-        (λ n. Holds (counted value) n table.new (added below (in_use (counted value) len table.old) (value time) amount))
+        (table_asks limit 11 (length table.old) len (nat_le (length (added T.below (in_use (counted T.value) len table.old) (T.value time) amount)) limit))
+        (λ n. Holds (counted T.value) n table.new (added T.below (in_use (counted T.value) len table.old) (T.value time) amount))
         (table.new ≡ table.old) }
     ensures rest { drop limit table.new ≡ drop limit table.old }
 {

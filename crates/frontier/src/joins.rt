@@ -21,11 +21,11 @@ pub fn antichain_join_into<T: Lattice + Copy>(
     scratch: &mut [T],
 ) -> Result<usize, Refusal>
     ensures answer { Answered result
-        (frontier_asks (min (length upper.old) (length scratch.old)) 0 (fits T.PartialOrder.below frontier_size [] (pairwise joined (map T.PartialOrder.value one.now) (map T.PartialOrder.value other.now))))
-        (λ n. Holds T.PartialOrder.value n upper.new (join T.PartialOrder.below joined (map T.PartialOrder.value one.now) (map T.PartialOrder.value other.now)) × (drop n upper.new ≡ drop n upper.old))
+        (frontier_asks (min (length upper.old) (length scratch.old)) 0 (fits T.PartialOrder.below frontier_size [] (pairwise T.joined (map T.PartialOrder.value one.now) (map T.PartialOrder.value other.now))))
+        (λ n. Holds T.PartialOrder.value n upper.new (join T.PartialOrder.below T.joined (map T.PartialOrder.value one.now) (map T.PartialOrder.value other.now)) × (drop n upper.new ≡ drop n upper.old))
         (upper.new ≡ upper.old) }
     ensures scratch { drop frontier_size scratch.new ≡ drop frontier_size scratch.old }
-    ensures law { JoinKeeps T.PartialOrder.below joined }
+    ensures law { JoinKeeps T.PartialOrder.below T.joined }
 {
     if upper.len() < FRONTIER_SIZE || scratch.len() < FRONTIER_SIZE {
         return Err(Refusal::ShortTable);
@@ -44,11 +44,11 @@ pub fn antichain_meet<T: PartialOrder + Copy>(
     scratch: &mut [T],
 ) -> Result<usize, Refusal>
     ensures answer { Answered result
-        (frontier_asks (min (length upper.old) (length scratch.old)) 0 (fits below frontier_size [] (map value one.now ++ map value other.now)))
-        (λ n. Holds value n upper.new (meet below (map value one.now) (map value other.now)) × (drop n upper.new ≡ drop n upper.old))
+        (frontier_asks (min (length upper.old) (length scratch.old)) 0 (fits T.below frontier_size [] (map T.value one.now ++ map T.value other.now)))
+        (λ n. Holds T.value n upper.new (meet T.below (map T.value one.now) (map T.value other.now)) × (drop n upper.new ≡ drop n upper.old))
         (upper.new ≡ upper.old) }
     ensures scratch { drop frontier_size scratch.new ≡ drop frontier_size scratch.old }
-    ensures law { MeetKeeps below }
+    ensures law { MeetKeeps T.below }
 {
     if upper.len() < FRONTIER_SIZE || scratch.len() < FRONTIER_SIZE {
         return Err(Refusal::ShortTable);

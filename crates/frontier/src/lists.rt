@@ -7,7 +7,7 @@ use lattice::{Lattice, PartialOrder, same_time};
 
 // Whether some time of the list is at or before the time.
 pub fn is_beyond<T: PartialOrder>(list: &[T], time: &T) -> bool
-    ensures { result ≡ beyond below (map value list.now) (value time.now) }
+    ensures { result ≡ beyond T.below (map T.value list.now) (T.value time.now) }
 {
     for e in list {
         if e.less_equal(time) {
@@ -19,7 +19,7 @@ pub fn is_beyond<T: PartialOrder>(list: &[T], time: &T) -> bool
 
 // Whether every time of the other list is beyond the one.
 pub fn antichain_less_equal<T: PartialOrder>(one: &[T], other: &[T]) -> bool
-    ensures { result ≡ leq below (map value one.now) (map value other.now) }
+    ensures { result ≡ leq T.below (map T.value one.now) (map T.value other.now) }
 {
     for t in other {
         if !is_beyond(one, t) {
@@ -31,7 +31,7 @@ pub fn antichain_less_equal<T: PartialOrder>(one: &[T], other: &[T]) -> bool
 
 // Whether the time stands in the list.
 fn is_in<T: PartialOrder>(list: &[T], time: &T) -> bool
-    ensures { result ≡ holds below (map value list.now) (value time.now) }
+    ensures { result ≡ holds T.below (map T.value list.now) (T.value time.now) }
 {
     for e in list {
         if same_time(e, time) {
@@ -43,7 +43,7 @@ fn is_in<T: PartialOrder>(list: &[T], time: &T) -> bool
 
 // Whether every time of the one list stands in the other.
 fn is_within<T: PartialOrder>(one: &[T], other: &[T]) -> bool
-    ensures { result ≡ within below (map value one.now) (map value other.now) }
+    ensures { result ≡ within T.below (map T.value one.now) (map T.value other.now) }
 {
     for t in one {
         if !is_in(other, t) {
@@ -55,24 +55,24 @@ fn is_within<T: PartialOrder>(one: &[T], other: &[T]) -> bool
 
 // Whether two frontiers hold the same times, in whatever order.
 pub fn antichain_equal<T: PartialOrder>(one: &[T], other: &[T]) -> bool
-    ensures value { result ≡ equal below (map value one.now) (map value other.now) }
-    ensures law { EqualByOrder below }
+    ensures value { result ≡ equal T.below (map T.value one.now) (map T.value other.now) }
+    ensures law { EqualByOrder T.below }
 {
     is_within(one, other) && is_within(other, one)
 }
 
 // Whether the time is beyond the join of two lists, which need not be made for that.
 pub fn is_beyond_join<T: Lattice>(one: &[T], other: &[T], time: &T) -> bool
-    ensures value { result ≡ beyond T.PartialOrder.below (join T.PartialOrder.below joined (map T.PartialOrder.value one.now) (map T.PartialOrder.value other.now)) (T.PartialOrder.value time.now) }
-    ensures law { BeyondBoth T.PartialOrder.below joined }
+    ensures value { result ≡ beyond T.PartialOrder.below (join T.PartialOrder.below T.joined (map T.PartialOrder.value one.now) (map T.PartialOrder.value other.now)) (T.PartialOrder.value time.now) }
+    ensures law { BeyondBoth T.PartialOrder.below T.joined }
 {
     is_beyond(one, time) && is_beyond(other, time)
 }
 
 // Whether the time is beyond the meet of two lists, which need not be made for that.
 pub fn is_beyond_meet<T: PartialOrder>(one: &[T], other: &[T], time: &T) -> bool
-    ensures value { result ≡ beyond below (meet below (map value one.now) (map value other.now)) (value time.now) }
-    ensures law { BeyondEither below }
+    ensures value { result ≡ beyond T.below (meet T.below (map T.value one.now) (map T.value other.now)) (T.value time.now) }
+    ensures law { BeyondEither T.below }
 {
     is_beyond(one, time) || is_beyond(other, time)
 }

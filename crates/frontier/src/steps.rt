@@ -20,8 +20,8 @@ pub fn extend<T: PartialOrder + Copy>(
     list: &[T],
 ) -> Result<usize, Refusal>
     ensures answer { Answered result
-        (frontier_asks (length table.old) len (fits below frontier_size (in_use value len table.old) (map value list.now)))
-        (λ n. Holds value n table.new (inserted_all below (in_use value len table.old) (map value list.now)))
+        (frontier_asks (length table.old) len (fits T.below frontier_size (in_use T.value len table.old) (map T.value list.now)))
+        (λ n. Holds T.value n table.new (inserted_all T.below (in_use T.value len table.old) (map T.value list.now)))
         (Unit {0}) }
     ensures rest { drop frontier_size table.new ≡ drop frontier_size table.old }
 {
@@ -43,8 +43,8 @@ fn extend_by_joins<T: Lattice + Copy>(
     list: &[T],
 ) -> Result<usize, Refusal>
     ensures answer { Answered result
-        (frontier_asks (length table.old) len (fits T.PartialOrder.below frontier_size (in_use T.PartialOrder.value len table.old) (map (joined (T.PartialOrder.value time.now)) (map T.PartialOrder.value list.now))))
-        (λ n. Holds T.PartialOrder.value n table.new (inserted_all T.PartialOrder.below (in_use T.PartialOrder.value len table.old) (map (joined (T.PartialOrder.value time.now)) (map T.PartialOrder.value list.now))))
+        (frontier_asks (length table.old) len (fits T.PartialOrder.below frontier_size (in_use T.PartialOrder.value len table.old) (map (T.joined (T.PartialOrder.value time.now)) (map T.PartialOrder.value list.now))))
+        (λ n. Holds T.PartialOrder.value n table.new (inserted_all T.PartialOrder.below (in_use T.PartialOrder.value len table.old) (map (T.joined (T.PartialOrder.value time.now)) (map T.PartialOrder.value list.now))))
         (Unit {0}) }
     ensures rest { drop frontier_size table.new ≡ drop frontier_size table.old }
 {
@@ -65,8 +65,8 @@ pub fn join_into<T: Lattice + Copy>(
     table: &mut [T],
 ) -> Result<usize, Refusal>
     ensures answer { Answered result
-        (frontier_asks (length table.old) 0 (fits T.PartialOrder.below frontier_size [] (pairwise joined (map T.PartialOrder.value one.now) (map T.PartialOrder.value other.now))))
-        (λ n. Holds T.PartialOrder.value n table.new (join T.PartialOrder.below joined (map T.PartialOrder.value one.now) (map T.PartialOrder.value other.now)))
+        (frontier_asks (length table.old) 0 (fits T.PartialOrder.below frontier_size [] (pairwise T.joined (map T.PartialOrder.value one.now) (map T.PartialOrder.value other.now))))
+        (λ n. Holds T.PartialOrder.value n table.new (join T.PartialOrder.below T.joined (map T.PartialOrder.value one.now) (map T.PartialOrder.value other.now)))
         (Unit {0}) }
     ensures rest { drop frontier_size table.new ≡ drop frontier_size table.old }
 {
@@ -87,8 +87,8 @@ pub fn meet_into<T: PartialOrder + Copy>(
     table: &mut [T],
 ) -> Result<usize, Refusal>
     ensures answer { Answered result
-        (frontier_asks (length table.old) 0 (fits below frontier_size [] (map value one.now ++ map value other.now)))
-        (λ n. Holds value n table.new (meet below (map value one.now) (map value other.now)))
+        (frontier_asks (length table.old) 0 (fits T.below frontier_size [] (map T.value one.now ++ map T.value other.now)))
+        (λ n. Holds T.value n table.new (meet T.below (map T.value one.now) (map T.value other.now)))
         (Unit {0}) }
     ensures rest { drop frontier_size table.new ≡ drop frontier_size table.old }
 {

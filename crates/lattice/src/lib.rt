@@ -72,22 +72,22 @@ pub trait Timestamp: PartialOrder + Lattice {
 
 // Moves a time on to its join with another.
 pub fn join_assign<T: Lattice + Copy>(time: &mut T, other: &T)
-    ensures { T.PartialOrder.value time.new ≡ joined (T.PartialOrder.value time.old) (T.PartialOrder.value other.now) }
+    ensures { T.PartialOrder.value time.new ≡ T.joined (T.PartialOrder.value time.old) (T.PartialOrder.value other.now) }
 {
     *time = time.join(other);
 }
 
 // Moves a time back to its meet with another.
 pub fn meet_assign<T: Lattice + Copy>(time: &mut T, other: &T)
-    ensures { T.PartialOrder.value time.new ≡ met (T.PartialOrder.value time.old) (T.PartialOrder.value other.now) }
+    ensures { T.PartialOrder.value time.new ≡ T.met (T.PartialOrder.value time.old) (T.PartialOrder.value other.now) }
 {
     *time = time.meet(other);
 }
 
 // Whether two times are the same, by their order alone.
 pub fn same_time<X: PartialOrder>(one: &X, other: &X) -> bool
-    ensures value { result ≡ at_once below (value one.now) (value other.now) }
-    ensures exact { Decides result (value one.now ≡ value other.now) }
+    ensures value { result ≡ at_once X.below (X.value one.now) (X.value other.now) }
+    ensures exact { Decides result (X.value one.now ≡ X.value other.now) }
 {
     one.less_equal(other) && other.less_equal(one)
 }

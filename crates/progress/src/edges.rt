@@ -20,8 +20,8 @@ fn extend_by_missing<T: PartialOrder + Copy>(
     counts: &[(T, i64)],
 ) -> Result<usize, Refusal>
     ensures { Answered result
-        (frontier_asks (length table.old) len (fits below frontier_size (in_use value len table.old) (positives (map (counted value) counts.now))))
-        (λ n. Holds value n table.new (inserted_all below (in_use value len table.old) (positives (map (counted value) counts.now))))
+        (frontier_asks (length table.old) len (fits T.below frontier_size (in_use T.value len table.old) (positives (map (counted T.value) counts.now))))
+        (λ n. Holds T.value n table.new (inserted_all T.below (in_use T.value len table.old) (positives (map (counted T.value) counts.now))))
         (Unit {0}) }
 {
     if len > FRONTIER_SIZE || table.len() < FRONTIER_SIZE {
@@ -44,8 +44,8 @@ pub fn lower_edge<T: PartialOrder + Copy>(
     edge: &mut [T],
 ) -> Result<usize, Refusal>
     ensures { Answered result
-        (frontier_asks (length edge.old) (length frontier.now) (fits below frontier_size (map value frontier.now) (positives (map (counted value) counts.now))))
-        (λ n. Holds value n edge.new (inserted_all below (map value frontier.now) (positives (map (counted value) counts.now))))
+        (frontier_asks (length edge.old) (length frontier.now) (fits T.below frontier_size (map T.value frontier.now) (positives (map (counted T.value) counts.now))))
+        (λ n. Holds T.value n edge.new (inserted_all T.below (map T.value frontier.now) (positives (map (counted T.value) counts.now))))
         (Unit {0}) }
 {
     let len = frontier.len();

@@ -38,7 +38,7 @@ const LARGEST_COUNT: u32 = 1_000_000;
 
 // Whether no count is over the largest, as question 5 asks.
 fn is_small<T: PartialOrder>(counts: &[(T, u32)]) -> bool
-    ensures { result ≡ small (map (count_of value) counts.now) }
+    ensures { result ≡ small (map (count_of T.value) counts.now) }
 {
     for c in counts {
         if c.1 > LARGEST_COUNT {
@@ -50,14 +50,14 @@ fn is_small<T: PartialOrder>(counts: &[(T, u32)]) -> bool
 
 // Whether a time is beyond the lower list and behind the upper one.
 fn is_between<T: PartialOrder>(lower: &[T], upper: &[T], time: &T) -> bool
-    ensures { result ≡ (beyond below (map value lower.now) (value time.now) && not (beyond below (map value upper.now) (value time.now))) }
+    ensures { result ≡ (beyond T.below (map T.value lower.now) (T.value time.now) && not (beyond T.below (map T.value upper.now) (T.value time.now))) }
 {
     is_beyond(lower, time) && !is_beyond(upper, time)
 }
 
 // Whether each counted time is beyond the lower list and behind the upper one, as question 6 asks.
 fn is_inside<T: PartialOrder>(lower: &[T], upper: &[T], counts: &[(T, u32)]) -> bool
-    ensures { result ≡ inside below (map value lower.now) (map value upper.now) (map (count_of value) counts.now) }
+    ensures { result ≡ inside T.below (map T.value lower.now) (map T.value upper.now) (map (count_of T.value) counts.now) }
 {
     for c in counts {
         if !is_between(lower, upper, &c.0) {
@@ -69,7 +69,7 @@ fn is_inside<T: PartialOrder>(lower: &[T], upper: &[T], counts: &[(T, u32)]) -> 
 
 // Whether none of the counts is of the time.
 fn is_uncounted<T: PartialOrder>(counts: &[(T, u32)], time: &T) -> bool
-    ensures { result ≡ list_all (λ c. not (at_once below (value time.now) c.0)) (map (count_of value) counts.now) }
+    ensures { result ≡ list_all (λ c. not (at_once T.below (T.value time.now) c.0)) (map (count_of T.value) counts.now) }
 {
     for c in counts {
         if same_time(time, &c.0) {
@@ -81,7 +81,7 @@ fn is_uncounted<T: PartialOrder>(counts: &[(T, u32)], time: &T) -> bool
 
 // Whether no time is counted twice, as question 7 asks.
 fn is_counted_once<T: PartialOrder>(counts: &[(T, u32)]) -> bool
-    ensures { result ≡ counted_once below (map (count_of value) counts.now) }
+    ensures { result ≡ counted_once T.below (map (count_of T.value) counts.now) }
 {
     for (i, c) in counts.iter().enumerate() {
         if !is_uncounted(&counts[i + 1..], &c.0) {
@@ -100,8 +100,8 @@ fn add_counts<T: PartialOrder + Copy>(
     counts: &[(T, u32)],
 ) -> Result<usize, Refusal>
     ensures { Answered result
-        (table_asks reader_counts 11 (length table.old) len (room below reader_counts (in_use (counted value) len table.old) (counts_beyond below (map value frontier.now) (map (count_of value) counts.now))))
-        (λ n. Holds (counted value) n table.new (added_all below (in_use (counted value) len table.old) (counts_beyond below (map value frontier.now) (map (count_of value) counts.now))))
+        (table_asks reader_counts 11 (length table.old) len (room T.below reader_counts (in_use (counted T.value) len table.old) (counts_beyond T.below (map T.value frontier.now) (map (count_of T.value) counts.now))))
+        (λ n. Holds (counted T.value) n table.new (added_all T.below (in_use (counted T.value) len table.old) (counts_beyond T.below (map T.value frontier.now) (map (count_of T.value) counts.now))))
         (Unit {0}) }
 {
     if len > COUNTS_SIZE || table.len() < COUNTS_SIZE {
@@ -118,21 +118,21 @@ fn add_counts<T: PartialOrder + Copy>(
 
 // Whether a waiting statement can act: its lower list is at or before the progress frontier.
 fn is_ready<T: PartialOrder + Copy>(entry: &StoredProgress<T>, frontier: &[T]) -> bool
-    ensures { result ≡ ready below (map value frontier.now) (stored_statement value entry.now) }
+    ensures { result ≡ ready T.below (map T.value frontier.now) (stored_statement T.value entry.now) }
 {
     antichain_less_equal(entry.view().lower, frontier)
 }
 
 // Whether a waiting statement says nothing new: its upper list is at or before the progress frontier.
 fn is_passed<T: PartialOrder + Copy>(entry: &StoredProgress<T>, frontier: &[T]) -> bool
-    ensures { result ≡ passed below (map value frontier.now) (stored_statement value entry.now) }
+    ensures { result ≡ passed T.below (map T.value frontier.now) (stored_statement T.value entry.now) }
 {
     antichain_less_equal(entry.view().upper, frontier)
 }
 
 // The place of the first waiting statement that can act, or how many wait where none can.
 fn first_ready<T: PartialOrder + Copy>(waiting: &[StoredProgress<T>], frontier: &[T]) -> usize
-    ensures { result ≡ prefix_len (λ s. not (ready below (map value frontier.now) s)) (map (stored_statement value) waiting.now) }
+    ensures { result ≡ prefix_len (λ s. not (ready T.below (map T.value frontier.now) s)) (map (stored_statement T.value) waiting.now) }
 {
     for (i, e) in waiting.iter().enumerate() {
         if is_ready(e, frontier) {
@@ -151,7 +151,7 @@ fn drop_passed<T: PartialOrder + Copy>(
 ) -> usize
     requires { len ≤ length waiting.old }
     ensures within { result ≤ len }
-    ensures after { Holds (stored_statement value) result waiting.new (not_passed below (map value frontier.now) (in_use (stored_statement value) len waiting.old)) }
+    ensures after { Holds (stored_statement T.value) result waiting.new (not_passed T.below (map T.value frontier.now) (in_use (stored_statement T.value) len waiting.old)) }
 {
     let mut k = 0usize;
     for i in 0..len {
@@ -247,10 +247,10 @@ fn wait<T: PartialOrder + Copy>(
     waiting: &mut [StoredProgress<T>],
     len: usize,
 ) -> Result<usize, Refusal>
-    requires { (short_statement (statement_of value statement) ≡ true) × ((len ≤ reader_statements) × (reader_statements ≤ length waiting.old)) }
+    requires { (short_statement (statement_of T.value statement) ≡ true) × ((len ≤ reader_statements) × (reader_statements ≤ length waiting.old)) }
     ensures { Answered result
         ((nat_lt len reader_statements, 10) ∷ [])
-        (λ n. (in_use (stored_statement value) n waiting.new ≡ in_use (stored_statement value) len waiting.old ++ statement_of value statement.entry ∷ []) × (n ≤ reader_statements))
+        (λ n. (in_use (stored_statement T.value) n waiting.new ≡ in_use (stored_statement T.value) len waiting.old ++ statement_of T.value statement.entry ∷ []) × (n ≤ reader_statements))
         (Unit {0}) }
 {
     if len >= WAITING_SIZE {
@@ -262,7 +262,7 @@ fn wait<T: PartialOrder + Copy>(
 
 // What every statement is asked, whatever comes of it: questions 2, 5, 6 and 7.
 fn check<T: PartialOrder>(statement: Progress<'_, T>) -> Result<(), Refusal>
-    ensures { Answered result (made_asks below (statement_of value statement.entry)) (λ _. Unit {0}) (Unit {0}) }
+    ensures { Answered result (made_asks T.below (statement_of T.value statement.entry)) (λ _. Unit {0}) (Unit {0}) }
 {
     if !statement.is_short() {
         return Err(Refusal::LongMessage);

@@ -2,11 +2,11 @@ use Rattle.std.proofs.Common.{length, filter, ap, ◌∙◌, rules}
 use Rattle.std.proofs.lemmas.List.{take_all}
 use Rattle.frontier.proofs.Inserting.{stays, count_more_yes, count_more_no, length_without}
 use Rattle.frontier.proofs.antichain.count_without.Goals as goal
-use Rattle.frontier.proofs.antichain.count_without.Goals.{then-not-less-equal, else-not-less-equal}
+use Rattle.frontier.proofs.antichain.count_without.Goals.{then-not-less_equal, else-not-less_equal}
 
 pub loop-e-preserved : goal.loop-e-preserved
 loop-e-preserved g c =
-    elim c.if-not-less-equal.branch [ then-not-less-equal w ↦ search (rules, count_more_yes) | else-not-less-equal w ↦ search (rules, count_more_no) ]
+    elim c.if-not-less_equal.branch [ then-not-less_equal w ↦ search (rules, count_more_yes) | else-not-less_equal w ↦ search (rules, count_more_no) ]
 
 pub returns : goal.returns
 returns g c =

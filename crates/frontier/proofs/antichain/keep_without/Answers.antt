@@ -2,17 +2,17 @@ use Rattle.std.proofs.Common.{◌≡◌, ◌<◌, not, length, sym, ap, ◌∙�
 use Rattle.std.proofs.lemmas.List.Filters.{FiltersInPlace-more_no, FiltersInPlace-more_set}
 use Rattle.frontier.proofs.Inserting.{kept_all}
 use Rattle.frontier.proofs.antichain.keep_without.Goals as goal
-use Rattle.frontier.proofs.antichain.keep_without.Goals.{then-not-less-equal, else-not-less-equal}
+use Rattle.frontier.proofs.antichain.keep_without.Goals.{then-not-less_equal, else-not-less_equal}
 
 pub loop-i-preserved : goal.loop-i-preserved
 loop-i-preserved g c =
-    let told = c.less-equal.ensures in
+    let told = c.less_equal.ensures in
     let inside : c.loop-i.i < length c.loop-i.table = omega arith in
-    elim c.if-not-less-equal.branch [
-      | then-not-less-equal w ↦
-          rw (w.table-is, w.k-is) (FiltersInPlace-more_set c.loop-i.invariant inside (ap not (sym told ∙ w.if-not-less-equal.true)) c.index-table-i.is)
-      | else-not-less-equal w ↦
-          rw (w.table-is, w.k-is) (FiltersInPlace-more_no c.loop-i.invariant inside (ap not (sym told ∙ w.if-not-less-equal.false)) c.index-table-i.is)
+    elim c.if-not-less_equal.branch [
+      | then-not-less_equal w ↦
+          rw (w.table-is, w.k-is) (FiltersInPlace-more_set c.loop-i.invariant inside (ap not (sym told ∙ w.if-not-less_equal.true)) c.index-table-i.is)
+      | else-not-less_equal w ↦
+          rw (w.table-is, w.k-is) (FiltersInPlace-more_no c.loop-i.invariant inside (ap not (sym told ∙ w.if-not-less_equal.false)) c.index-table-i.is)
     ]
 
 pub returns : goal.returns

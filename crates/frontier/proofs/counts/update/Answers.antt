@@ -20,13 +20,13 @@ returns-then-at-len g c =
     let inside : c.find-at.result < length xs = omega arith in
     let e = get_or xs c.find-at.result (c.args.time, pos 0) in
     let is : e ≡ get_or xs c.find-at.result e = get_or_default xs c.find-at.result (c.args.time, pos 0) e inside in
-    let short : c.change-at.result ≤ length c.change-at.new.table = omega arith in
+    let short : c.change_at.result ≤ length c.change_at.new.table = omega arith in
     let fits : SFits w64 c.args.amount = c.ranges.amount in
-    let after = simp to_z-of_z at (c.change-at.ensures.after e is) in
-    let told = update_hit o.below o.value xs c.args.len c.args.time c.args.amount c.find-at.result place long e c.if-at-len.true is c.change-at.result c.change-at.new.table short after in
+    let after = simp to_z-of_z at (c.change_at.ensures.after e is) in
+    let told = update_hit o.below o.value xs c.args.len c.args.time c.args.amount c.find-at.result place long e c.if-at-len.true is c.change_at.result c.change_at.new.table short after in
     record {
-      answer = (table_fits c.args.limit 11 _ _ _ c.if-len-limit.false c.if-table-limit.false (le-leb _ _ (omega (arith, told.1, c.change-at.ensures.within))), told);
-      rest = drop_on xs c.change-at.new.table c.args.len c.args.limit c.if-len-limit.false c.change-at.ensures.rest;
+      answer = (table_fits c.args.limit 11 _ _ _ c.if-len-limit.false c.if-table-limit.false (le-leb _ _ (omega (arith, told.1, c.change_at.ensures.within))), told);
+      rest = drop_on xs c.change_at.new.table c.args.len c.args.limit c.if-len-limit.false c.change_at.ensures.rest;
     }
 
 pub returns-then-amount-eq0 : goal.returns-then-amount-eq0

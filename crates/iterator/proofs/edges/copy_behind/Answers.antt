@@ -7,7 +7,7 @@ use Rattle.capture.specs.Messages.{Change, those_behind}
 use Rattle.capture.specs.Views.{change_of}
 use Rattle.progress.proofs.Keeping.{kept_yes, kept_no}
 use Rattle.iterator.proofs.edges.copy_behind.Goals as goal
-use Rattle.iterator.proofs.edges.copy_behind.Goals.{then-not-is-beyond, else-not-is-beyond}
+use Rattle.iterator.proofs.edges.copy_behind.Goals.{then-not-is_beyond, else-not-is_beyond}
 
 pub loop-c-preserved : goal.loop-c-preserved
 loop-c-preserved g c =
@@ -18,13 +18,13 @@ loop-c-preserved g c =
     let table = c.loop-c.table in
     let x = c.c-item.result in
     let inside : n < length table = omega (arith, c.loop-c.invariant.0, c.requires) in
-    elim c.if-not-is-beyond.branch [
-      | then-not-is-beyond w ↦
+    elim c.if-not-is_beyond.branch [
+      | then-not-is_beyond w ↦
           let push : in_use reads (n + 1) (set table n x) ≡ in_use reads n table ++ reads x ∷ [] = ap (map reads) (take_more_set table n x inside) ∙ map_push reads (take n table) x in
-          let kept = kept_yes (λ d. not (beyond o.below f d.time)) reads c.args.changes.now c.loop-c.c-index x c.loop-c-test.true c.c-item.is (ap not (sym c.is-beyond.ensures ∙ w.if-not-is-beyond.true)) in
+          let kept = kept_yes (λ d. not (beyond o.below f d.time)) reads c.args.changes.now c.loop-c.c-index x c.loop-c-test.true c.c-item.is (ap not (sym c.is_beyond.ensures ∙ w.if-not-is_beyond.true)) in
           rw (w.table-is, w.n-is) (omega (arith, c.loop-c.invariant.0), push ∙ ap (λ l. l ++ reads x ∷ []) c.loop-c.invariant.1 ∙ sym kept, drop-set-lt (n + 1) table n x (omega arith) ∙ drop_on c.args.table.now table n (n + 1) (omega arith) c.loop-c.invariant.2)
-      | else-not-is-beyond w ↦
-          let kept = kept_no (λ d. not (beyond o.below f d.time)) reads c.args.changes.now c.loop-c.c-index x c.loop-c-test.true c.c-item.is (ap not (sym c.is-beyond.ensures ∙ w.if-not-is-beyond.false)) in
+      | else-not-is_beyond w ↦
+          let kept = kept_no (λ d. not (beyond o.below f d.time)) reads c.args.changes.now c.loop-c.c-index x c.loop-c-test.true c.c-item.is (ap not (sym c.is_beyond.ensures ∙ w.if-not-is_beyond.false)) in
           rw (w.table-is, w.n-is) (omega (arith, c.loop-c.invariant.0), c.loop-c.invariant.1 ∙ sym kept, c.loop-c.invariant.2)
     ]
 

@@ -4,15 +4,15 @@ use Rattle.frontier.specs.Frontiers.{beyond}
 use Rattle.frontier.proofs.Inserting.{kept_all}
 use Rattle.capture.specs.Views.{change_of}
 use Rattle.progress.proofs.edges.keep_beyond.Goals as goal
-use Rattle.progress.proofs.edges.keep_beyond.Goals.{then-is-beyond, else-is-beyond}
+use Rattle.progress.proofs.edges.keep_beyond.Goals.{then-is_beyond, else-is_beyond}
 
 pub loop-i-preserved : goal.loop-i-preserved
 loop-i-preserved g c =
-    let told = c.is-beyond.ensures in
+    let told = c.is_beyond.ensures in
     let inside : c.loop-i.i < length c.loop-i.changes = omega arith in
-    elim c.if-is-beyond.branch [
-      | then-is-beyond w ↦ rw (w.changes-is, w.k-is) (FiltersInPlace-more_set c.loop-i.invariant inside (sym told ∙ w.if-is-beyond.true) c.index-changes-i.is)
-      | else-is-beyond w ↦ rw (w.changes-is, w.k-is) (FiltersInPlace-more_no c.loop-i.invariant inside (sym told ∙ w.if-is-beyond.false) c.index-changes-i.is)
+    elim c.if-is_beyond.branch [
+      | then-is_beyond w ↦ rw (w.changes-is, w.k-is) (FiltersInPlace-more_set c.loop-i.invariant inside (sym told ∙ w.if-is_beyond.true) c.index-changes-i.is)
+      | else-is_beyond w ↦ rw (w.changes-is, w.k-is) (FiltersInPlace-more_no c.loop-i.invariant inside (sym told ∙ w.if-is_beyond.false) c.index-changes-i.is)
     ]
 
 pub returns : goal.returns

@@ -7,8 +7,8 @@ use Rattle.capture.specs.Sizes.{reader_statements}
 use Rattle.capture.specs.Stored.{stored_statement}
 use Rattle.progress.proofs.statements.wait.Goals as goal
 
-pub offset-bounds-waiting-len : goal.offset-bounds-waiting-len
-offset-bounds-waiting-len g c =
+pub offset_bounds-waiting-len : goal.offset_bounds-waiting-len
+offset_bounds-waiting-len g c =
     let h : c.args.len < length c.args.waiting.now = omega (arith, c.requires.1.1) in
     search rules
 
@@ -21,5 +21,5 @@ returns g c =
     let y = c.store.new.self in
     let h : len < length W = omega (arith, c.requires.1.1) in
     let near : len < reader_statements = omega arith in
-    let told = c.in-ok-store.ensures in
+    let told = c.in_ok-store.ensures in
     (ask_next (ltb len reader_statements) 10 [] (lt-ltb len reader_statements near), (ap (map stored) (take_more_set W len y h) ∙ map_push stored (take len W) y ∙ ap (λ v. in_use stored len W ++ v ∷ []) told.1, omega arith))

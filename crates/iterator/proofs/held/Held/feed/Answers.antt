@@ -8,8 +8,8 @@ use Rattle.iterator.proofs.Sizes.{all_tell}
 use Rattle.iterator.proofs.held.Held.feed.Goals.{in-Updates, in-Progress}
 use Rattle.iterator.proofs.held.Held.feed.Goals as goal
 
-pub returns-then-not-are-all-sized : goal.returns-then-not-are-all-sized
-returns-then-not-are-all-sized g c =
+pub returns-then-not-are_all_sized : goal.returns-then-not-are_all_sized
+returns-then-not-are_all_sized g c =
     let o = g.T.PartialOrder in
     let k = kinds g.D.Same.alike o.below g.T.Lattice.joined g.T.Timestamp.start g.R.Same.alike in
     let reads = change_of g.D.Same.value o.value g.R.Same.value in
@@ -19,27 +19,27 @@ returns-then-not-are-all-sized g c =
     let P = c.args.published.now in
     let Q = c.args.told.now in
     let sizes = all_sized h t P Q c.args.scratch.frontier.now c.args.scratch.counts.now c.args.scratch.waiting.now c.args.scratch.edge.now c.args.scratch.changes.now in
-    let no : sizes ≡ false = sym c.are-all-sized.ensures ∙ c.if-not-are-all-sized.true in
+    let no : sizes ≡ false = sym c.are_all_sized.ensures ∙ c.if-not-are_all_sized.true in
     fed_refused o.value reads k sizes m h t ShortTable P Q (short_refused k sizes m (held_of o.value reads h t) no)
 
-pub feed-changes-requires : goal.feed-changes-requires
-feed-changes-requires g c =
+pub feed_changes-requires : goal.feed_changes-requires
+feed_changes-requires g c =
     let h = c.args.self.now in
     let t = tables c.args.frontier.now c.args.reported.now c.args.counts.now c.args.held.now c.args.waiting.now in
     let P = c.args.published.now in
     let Q = c.args.told.now in
     let z = c.args.scratch in
-    let long = all_tell h t P Q z.frontier.now z.counts.now z.waiting.now z.edge.now z.changes.now (sym c.are-all-sized.ensures ∙ c.if-not-are-all-sized.false) in
+    let long = all_tell h t P Q z.frontier.now z.counts.now z.waiting.now z.edge.now z.changes.now (sym c.are_all_sized.ensures ∙ c.if-not-are_all_sized.false) in
     (search rules, (long.0, (long.1.4, long.1.1, long.1.3)))
 
-pub feed-statement-requires : goal.feed-statement-requires
-feed-statement-requires g c =
+pub feed_statement-requires : goal.feed_statement-requires
+feed_statement-requires g c =
     let h = c.args.self.now in
     let t = tables c.args.frontier.now c.args.reported.now c.args.counts.now c.args.held.now c.args.waiting.now in
     let P = c.args.published.now in
     let Q = c.args.told.now in
     let z = c.args.scratch in
-    let long = all_tell h t P Q z.frontier.now z.counts.now z.waiting.now z.edge.now z.changes.now (sym c.are-all-sized.ensures ∙ c.if-not-are-all-sized.false) in
+    let long = all_tell h t P Q z.frontier.now z.counts.now z.waiting.now z.edge.now z.changes.now (sym c.are_all_sized.ensures ∙ c.if-not-are_all_sized.false) in
     (search rules, (long.0, (long.1.0, long.1.1, long.1.2, long.1.3)))
 
 pub returns : goal.returns
@@ -52,9 +52,9 @@ returns g c =
     let P = c.args.published.now in
     let Q = c.args.told.now in
     let z = c.args.scratch in
-    let yes : all_sized h t P Q z.frontier.now z.counts.now z.waiting.now z.edge.now z.changes.now ≡ true = sym c.are-all-sized.ensures ∙ c.if-not-are-all-sized.false in
+    let yes : all_sized h t P Q z.frontier.now z.counts.now z.waiting.now z.edge.now z.changes.now ≡ true = sym c.are_all_sized.ensures ∙ c.if-not-are_all_sized.false in
     let reading = message_of g.D.Same.value o.value g.R.Same.value in
     elim c.match-message.branch [
-      | in-Updates w ↦ fed_same o.value reads k h t P Q yes (ap reading w.in-Updates.is) w.result-is w.self-is w.frontier-is w.reported-is w.counts-is w.held-is w.waiting-is w.published-is w.told-is w.feed-changes.ensures
-      | in-Progress w ↦ fed_same o.value reads k h t P Q yes (ap reading w.in-Progress.is) w.result-is w.self-is w.frontier-is w.reported-is w.counts-is w.held-is w.waiting-is w.published-is w.told-is w.feed-statement.ensures
+      | in-Updates w ↦ fed_same o.value reads k h t P Q yes (ap reading w.in-Updates.is) w.result-is w.self-is w.frontier-is w.reported-is w.counts-is w.held-is w.waiting-is w.published-is w.told-is w.feed_changes.ensures
+      | in-Progress w ↦ fed_same o.value reads k h t P Q yes (ap reading w.in-Progress.is) w.result-is w.self-is w.frontier-is w.reported-is w.counts-is w.held-is w.waiting-is w.published-is w.told-is w.feed_statement.ensures
     ]

@@ -7,8 +7,8 @@ use Rattle.capture.specs.Messages.{Change}
 use Rattle.capture.specs.Views.{change_of}
 use Rattle.iterator.proofs.held.Held.let_out.Goals as goal
 
-pub overflow-sub-self : goal.overflow-sub-self
-overflow-sub-self g c =
+pub overflow_sub-self : goal.overflow_sub-self
+overflow_sub-self g c =
     let o = g.T.PartialOrder in
     let reads = change_of g.D.Same.value o.value g.R.Same.value in
     let h = c.args.self.now.held in

@@ -10,7 +10,7 @@ use Rattle.iterator.proofs.held.Held.new.Goals as goal
 pub bounds-reported-0 : goal.bounds-reported-0
 bounds-reported-0 g c =
     let t = tables c.args.frontier.now c.args.reported.now c.args.counts.now c.args.held.now c.args.waiting.now in
-    let long = own_tells t (sym c.are-own-sized.ensures ∙ c.if-not-are-own-sized.false) in
+    let long = own_tells t (sym c.are_own_sized.ensures ∙ c.if-not-are_own_sized.false) in
     let h : 0 < length c.args.reported.now = omega (arith, long.1) in
     search rules
 
@@ -18,7 +18,7 @@ pub returns : goal.returns
 returns g c =
     let o = g.T.PartialOrder in
     let t = tables c.args.frontier.now c.args.reported.now c.args.counts.now c.args.held.now c.args.waiting.now in
-    let yes : own_sized t ≡ true = sym c.are-own-sized.ensures ∙ c.if-not-are-own-sized.false in
+    let yes : own_sized t ≡ true = sym c.are_own_sized.ensures ∙ c.if-not-are_own_sized.false in
     let long = own_tells t yes in
     let made : List g.row.T-Value.Denot → List g.row.T-Value.Denot → Held g.row.D-Value.Denot g.row.T-Value.Denot g.row.R-Value.Denot = λ f r. record { progress = record { frontier = f; counts = []; waiting = [] }; reported = r; updates = []; drops = 0 } in
     let start = g.T.Timestamp.start in

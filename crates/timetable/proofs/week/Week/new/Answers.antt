@@ -2,6 +2,6 @@ use borrow.Author.Rules.{rules}
 use Rattle.timetable.specs.Weeks.{is_week}
 use Rattle.timetable.proofs.week.Week.new.Goals as goal
 
-pub overflow-cast-result : goal.overflow-cast-result
+pub overflow_cast-result : goal.overflow_cast-result
 unfolding is_week
-overflow-cast-result c = search rules
+overflow_cast-result c = search rules

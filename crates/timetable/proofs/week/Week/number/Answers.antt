@@ -2,6 +2,6 @@ use borrow.Author.Rules.{rules}
 use Rattle.timetable.specs.Weeks.{is_week}
 use Rattle.timetable.proofs.week.Week.number.Goals as goal
 
-pub returns-else-is-week : goal.returns-else-is-week
+pub returns-else-is_week : goal.returns-else-is_week
 unfolding is_week
-returns-else-is-week c = search rules
+returns-else-is_week c = search rules
