@@ -15,7 +15,7 @@ use questions::Refusal;
 
 // Whether a list moves a frontier on, as question 4 asks.
 pub(crate) fn advances<T: PartialOrder>(frontier: &[T], list: &[T]) -> bool
-    ensures { result ≡ (some (map value list.now) && (leq below (map value frontier.now) (map value list.now) && not (leq below (map value list.now) (map value frontier.now)))) }
+    ensures { result ≡ (some (map T.value list.now) && (leq T.below (map T.value frontier.now) (map T.value list.now) && not (leq T.below (map T.value list.now) (map T.value frontier.now)))) }
 {
     if list.len() == 0 {
         return false;
@@ -48,8 +48,8 @@ pub(crate) fn announce<T: PartialOrder + Copy>(
 ) -> Result<usize, Refusal>
     requires { length counts.now ≤ length table.old }
     ensures { Answered result
-        ((small (announced below (map value upper.now) (map (counted value) counts.now)), 5) ∷ [])
-        (λ n. Holds (count_of value) n table.new (announced below (map value upper.now) (map (counted value) counts.now)))
+        ((small (announced T.below (map T.value upper.now) (map (counted T.value) counts.now)), 5) ∷ [])
+        (λ n. Holds (count_of T.value) n table.new (announced T.below (map T.value upper.now) (map (counted T.value) counts.now)))
         (Unit {0}) }
 {
     let mut n = 0usize;
@@ -72,7 +72,7 @@ pub(crate) fn retain<T: PartialOrder + Copy>(
 ) -> usize
     requires { len ≤ length counts.old }
     ensures within { result ≤ len }
-    ensures after { Holds (counted value) result counts.new (retained below (map value list.now) (in_use (counted value) len counts.old)) }
+    ensures after { Holds (counted T.value) result counts.new (retained T.below (map T.value list.now) (in_use (counted T.value) len counts.old)) }
 {
     let mut k = 0usize;
     for i in 0..len {

@@ -28,7 +28,7 @@ pub(crate) fn is_small(count: i64) -> bool
 
 // The count of a time, 0 where it has no entry.
 fn count_at<T: PartialOrder>(table: &[(T, i64)], time: &T) -> i64
-    ensures { result ≡ count_at below (map (counted value) table.now) (value time.now) }
+    ensures { result ≡ count_at T.below (map (counted T.value) table.now) (T.value time.now) }
 {
     for e in table {
         if same_time(&e.0, time) {

@@ -56,8 +56,8 @@ fn add_all<T: PartialOrder + Copy>(
     counts: &[(T, i64)],
 ) -> Result<usize, Refusal>
     ensures { Answered result
-        (table_asks reader_counts 11 (length table.old) len (room below reader_counts (in_use (counted value) len table.old) (map (counted value) counts.now)))
-        (λ n. Holds (counted value) n table.new (added_all below (in_use (counted value) len table.old) (map (counted value) counts.now)))
+        (table_asks reader_counts 11 (length table.old) len (room T.below reader_counts (in_use (counted T.value) len table.old) (map (counted T.value) counts.now)))
+        (λ n. Holds (counted T.value) n table.new (added_all T.below (in_use (counted T.value) len table.old) (map (counted T.value) counts.now)))
         (Unit {0}) }
 {
     if len > COUNTS_SIZE || table.len() < COUNTS_SIZE {
@@ -80,7 +80,7 @@ pub(crate) fn bring_in<T: PartialOrder + Copy>(
     edge: &mut [T],
 ) -> Result<(usize, usize), Refusal>
     requires { (length frontier.now ≤ frontier_size) × (length counts.now ≤ reader_counts) × (reader_counts ≤ length sums.old) × (frontier_size ≤ length edge.old) }
-    ensures { Brought below value result frontier.now counts.now waiting_counts.now sums.new edge.new }
+    ensures { Brought T.below T.value result frontier.now counts.now waiting_counts.now sums.new edge.new }
 {
     let len = counts.len();
     steps::copy_entries(counts, sums, len);

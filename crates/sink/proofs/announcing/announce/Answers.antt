@@ -12,21 +12,21 @@ use Rattle.capture.specs.Views.{count_of}
 use Rattle.capture.proofs.Queues.{pushed}
 use Rattle.sink.proofs.Parting.{only_no, passes, writes, too_large, announced_all}
 use Rattle.sink.proofs.announcing.announce.Goals as goal
-use Rattle.sink.proofs.announcing.announce.Goals.{then-not-is-beyond+in-ok-count, else-not-is-beyond}
+use Rattle.sink.proofs.announcing.announce.Goals.{then-not-is_beyond+in_ok-count, else-not-is_beyond}
 
-pub offset-bounds-table-n : goal.offset-bounds-table-n
-offset-bounds-table-n g c = let h : c.loop-c.n < length c.args.table.now = omega (arith, c.requires, c.loop-c.invariant.0) in search rules
+pub offset_bounds-table-n : goal.offset_bounds-table-n
+offset_bounds-table-n g c = let h : c.loop-c.n < length c.args.table.now = omega (arith, c.requires, c.loop-c.invariant.0) in search rules
 
-pub returns-in-err-count : goal.returns-in-err-count
-returns-in-err-count g c =
+pub returns-in_err-count : goal.returns-in_err-count
+returns-in_err-count g c =
     let o = g.T.PartialOrder in
     let x = c.c-item.result in
     let fits : SFits w64 x.1 = search rules in
-    let told = simp to_z-of_z at c.in-err-count.ensures in
-    let large = only_no (leb (as-told x.1) largest_count) 5 (number_of c.in-err-count.field-0.0) told.0 in
+    let told = simp to_z-of_z at c.in_err-count.ensures in
+    let large = only_no (leb (as-told x.1) largest_count) 5 (number_of c.in_err-count.field-0.0) told.0 in
     let turn = next (counted o.value) c.args.counts.now c.loop-c.c-index x c.loop-c-test.true c.c-item.is (λ ys. ys) in
-    let stop = too_large o.below (map o.value c.args.upper.now) (counted o.value x) _ _ _ _ turn c.loop-c.invariant.1 (sym c.is-beyond.ensures ∙ c.if-not-is-beyond.true) large.0 in
-    let p = err_from_is_err_and c.from-residual.result c.from-residual.ensures.1 in
+    let stop = too_large o.below (map o.value c.args.upper.now) (counted o.value x) _ _ _ _ turn c.loop-c.invariant.1 (sym c.is_beyond.ensures ∙ c.if-not-is_beyond.true) large.0 in
+    let p = err_from_is_err_and c.from_residual.result c.from_residual.ensures.1 in
     rw (p.1, p.2) (ask_here _ 5 [] stop ∙ ap Some (sym large.1), tt)
 
 pub loop-c-preserved : goal.loop-c-preserved
@@ -36,14 +36,14 @@ loop-c-preserved g c =
     let upper = map o.value c.args.upper.now in
     let turn = next (counted o.value) c.args.counts.now c.loop-c.c-index x c.loop-c-test.true c.c-item.is (λ ys. ys) in
     let inside : c.loop-c.n < length c.loop-c.table = omega (arith, c.requires, c.loop-c.invariant.0) in
-    elim c.if-not-is-beyond.branch [
-      | then-not-is-beyond+in-ok-count w ↦
+    elim c.if-not-is_beyond.branch [
+      | then-not-is_beyond+in_ok-count w ↦
           let fits : SFits w64 x.1 = search rules in
-          let told = simp to_z-of_z at w.in-ok-count.ensures in
+          let told = simp to_z-of_z at w.in_ok-count.ensures in
           let yes = asked_all (leb (as-told x.1) largest_count) 5 [] told.0 in
-          rw (w.table-is, w.n-is) (omega (arith, c.loop-c.invariant.0), writes o.below upper (counted o.value x) _ _ _ _ turn c.loop-c.invariant.1 (sym c.is-beyond.ensures ∙ w.if-not-is-beyond.true) _ (pushed (count_of o.value) c.loop-c.table c.loop-c.n _ _ inside (ap (λ k. (o.value x.0, k)) told.1)) yes.0)
-      | else-not-is-beyond w ↦
-          rw (w.table-is, w.n-is) (omega (arith, c.loop-c.invariant.0), passes o.below upper (counted o.value x) _ _ _ _ turn c.loop-c.invariant.1 (sym c.is-beyond.ensures ∙ w.if-not-is-beyond.false))
+          rw (w.table-is, w.n-is) (omega (arith, c.loop-c.invariant.0), writes o.below upper (counted o.value x) _ _ _ _ turn c.loop-c.invariant.1 (sym c.is_beyond.ensures ∙ w.if-not-is_beyond.true) _ (pushed (count_of o.value) c.loop-c.table c.loop-c.n _ _ inside (ap (λ k. (o.value x.0, k)) told.1)) yes.0)
+      | else-not-is_beyond w ↦
+          rw (w.table-is, w.n-is) (omega (arith, c.loop-c.invariant.0), passes o.below upper (counted o.value x) _ _ _ _ turn c.loop-c.invariant.1 (sym c.is_beyond.ensures ∙ w.if-not-is_beyond.false))
     ]
 
 pub returns : goal.returns

@@ -7,14 +7,14 @@ use Rattle.capture.specs.Sender.{raised}
 use Rattle.capture.specs.Views.{change_of}
 use Rattle.sink.proofs.Additions.{added_few, counts_many, counts_few, never_full, counted_all}
 use Rattle.sink.proofs.counting.count_changes.Goals as goal
-use Rattle.sink.proofs.counting.count_changes.Goals.{then-n-gt-SENDER-COUNTS, else-n-gt-SENDER-COUNTS}
+use Rattle.sink.proofs.counting.count_changes.Goals.{then-n-gt-SENDER_COUNTS, else-n-gt-SENDER_COUNTS}
 
 pub unreachable-requires : goal.unreachable-requires
 unreachable-requires g c =
     let o = g.T.PartialOrder in
     let few : c.loop-c.n < 1024 = omega (arith, c.loop-c.invariant.0, c.requires.1.0, c.loop-c-test.true) in
     let long : 1024 ≤ length c.loop-c.table = omega (arith, c.requires.1.1) in
-    let told = c.in-default.ensures.answer.0 in
+    let told = c.in_default.ensures.answer.0 in
     let none = never_full o.below o.value 1024 c.loop-c.n c.loop-c.table (o.value c.c-item.result.1) (pos 1) few long in
     let z : ◌≡◌ {A = ℕ} 0 1 = cc in
     absurd (omega arith)
@@ -34,9 +34,9 @@ loop-c-preserved g c =
     let turn : left ≡ (o.value x.1, pos 1) ∷ rest = next reads c.args.changes.now c.loop-c.c-index x c.loop-c-test.true c.c-item.is raised in
     let size : c.loop-c.n ≤ length c.loop-c.table = omega (arith, c.loop-c.invariant.0, c.requires.1.0, c.requires.1.1, c.loop-c-test.true) in
     let grown : c.in-Ok.m ≤ sender_counts + (c.loop-c.c-index + 1) = omega (arith, told.1, added_few o.below front (o.value x.1) (pos 1), length_in_use (counted o.value) c.loop-c.n c.loop-c.table size, c.loop-c.invariant.0) in
-    elim c.if-n-gt-SENDER-COUNTS.branch [
-      | then-n-gt-SENDER-COUNTS w ↦ rw w.fits-is (grown, counts_many o.below sender_counts start all front left rest after c.loop-c.fits (o.value x.1) (pos 1) c.in-Ok.m turn told.0 told.1 c.loop-c.invariant.1 w.if-n-gt-SENDER-COUNTS.true)
-      | else-n-gt-SENDER-COUNTS w ↦ rw w.fits-is (grown, counts_few o.below sender_counts start all front left rest after c.loop-c.fits (o.value x.1) (pos 1) c.in-Ok.m turn told.0 told.1 c.loop-c.invariant.1 w.if-n-gt-SENDER-COUNTS.false)
+    elim c.if-n-gt-SENDER_COUNTS.branch [
+      | then-n-gt-SENDER_COUNTS w ↦ rw w.fits-is (grown, counts_many o.below sender_counts start all front left rest after c.loop-c.fits (o.value x.1) (pos 1) c.in-Ok.m turn told.0 told.1 c.loop-c.invariant.1 w.if-n-gt-SENDER_COUNTS.true)
+      | else-n-gt-SENDER_COUNTS w ↦ rw w.fits-is (grown, counts_few o.below sender_counts start all front left rest after c.loop-c.fits (o.value x.1) (pos 1) c.in-Ok.m turn told.0 told.1 c.loop-c.invariant.1 w.if-n-gt-SENDER_COUNTS.false)
     ]
 
 pub returns : goal.returns

@@ -19,7 +19,7 @@ pub loop-i-preserved : goal.loop-i-preserved
 loop-i-preserved g c =
     let o = post g.W.Writer.taken g.W.Writer.ready g.W.Writer.committed in
     let reads = stored_message g.D.Same.value g.T.PartialOrder.value g.R.Same.value in
-    let told = c.in-default.ensures in
+    let told = c.in_default.ensures in
     let is = c.view-message.ensures in
     taken_on o reads c.args.messages.now c.args.post.now c.loop-i.i c.loop-i.post c.loop-i.invariant c.index-messages-i.result c.loop-i-test.true c.index-messages-i.is c.poll.new.self (ap (o.ready c.loop-i.post) (sym is) ∙ told.0) (told.1 ∙ ap (λ m. o.taken c.loop-i.post ++ m ∷ []) is)
 

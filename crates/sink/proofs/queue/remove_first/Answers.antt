@@ -8,4 +8,4 @@ pub returns : goal.returns
 returns g c =
     let xs = c.args.queue.now in
     let len = c.args.len in
-    turned_front (take len xs) _ c.rotate-left.new.self c.args.n len (length-take-le len xs c.requires.1) c.requires.0 (simp sub_zero at c.rotate-left.ensures.after)
+    turned_front (take len xs) _ c.rotate_left.new.self c.args.n len (length-take-le len xs c.requires.1) c.requires.0 (simp sub_zero at c.rotate_left.ensures.after)

@@ -3,12 +3,12 @@ use Rattle.capture.specs.Posts.{post}
 use Rattle.sink.proofs.Pumping.{refused_short, pumped_long}
 use Rattle.sink.proofs.sender.FinishedSender.pump_progress.Goals as goal
 
-pub returns-then-queue-lt-QUEUE-MESSAGES : goal.returns-then-queue-lt-QUEUE-MESSAGES
-returns-then-queue-lt-QUEUE-MESSAGES g c =
+pub returns-then-queue-lt-QUEUE_MESSAGES : goal.returns-then-queue-lt-QUEUE_MESSAGES
+returns-then-queue-lt-QUEUE_MESSAGES g c =
     let o = post g.W.Writer.taken g.W.Writer.ready g.W.Writer.committed in
-    record { pump = refused_short o (length c.args.queue.now) _ _ c.if-queue-lt-QUEUE-MESSAGES.true; others = refl; refused = (refl, refl, refl) }
+    record { pump = refused_short o (length c.args.queue.now) _ _ c.if-queue-lt-QUEUE_MESSAGES.true; others = refl; refused = (refl, refl, refl) }
 
 pub returns : goal.returns
 returns g c =
     let o = post g.W.Writer.taken g.W.Writer.ready g.W.Writer.committed in
-    record { pump = pumped_long o (length c.args.queue.now) _ _ _ _ _ _ c.if-queue-lt-QUEUE-MESSAGES.false c.pump-left.ensures.pumped; others = refl; refused = tt }
+    record { pump = pumped_long o (length c.args.queue.now) _ _ _ _ _ _ c.if-queue-lt-QUEUE_MESSAGES.false c.pump-left.ensures.pumped; others = refl; refused = tt }
