@@ -18,6 +18,7 @@ use capture::{Message, Row, StoredUpdates};
 use timetable::{Amount, Lesson};
 
 // The message that was read last, with room for the largest.
+#[derive(Clone, Copy)]
 pub struct MessageBlock {
     // whether it is a statement; what the part for the other sort holds is left from before
     stated: bool,
@@ -28,8 +29,6 @@ pub struct MessageBlock {
     // the statement
     progress: StatementRows,
 }
-
-impl Copy for MessageBlock {}
 
 impl MessageBlock {
     // A block with a message without changes.

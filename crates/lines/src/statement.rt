@@ -15,6 +15,7 @@ use crate::part::Part;
 use capture::{Progress, Row};
 
 // What was read of a statement: the first of each list, as many as there are places for.
+#[derive(Clone, Copy)]
 pub struct StatementRows {
     // the part that the last line belongs to
     part: Part,
@@ -27,8 +28,6 @@ pub struct StatementRows {
     // whether there was a place for every time and count
     few: bool,
 }
-
-impl Copy for StatementRows {}
 
 // What a line comes to in a statement.
 #[derive(Clone, Copy)]

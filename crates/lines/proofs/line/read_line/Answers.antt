@@ -5,4 +5,4 @@ use Rattle.lines.proofs.Fielding.{line_open}
 use Rattle.lines.proofs.line.read_line.Goals as goal
 
 pub returns-in-len1-up : goal.returns-in-len1-up
-returns-in-len1-up c = subst (Finds c.read-kind.result line_value) (sym (line_open c.args.line.now (search rules))) c.read-kind.ensures
+returns-in-len1-up c = subst (Finds c.read_kind.result line_value) (sym (line_open c.args.line.now (search rules))) c.read_kind.ensures
