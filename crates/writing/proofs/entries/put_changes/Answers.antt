@@ -14,17 +14,17 @@ use Rattle.writing.proofs.entries.put_changes.Goals as goal
 pub returns-then-at-out : goal.returns-then-at-out
 returns-then-at-out c = record { text = puts_past c.args.out.now c.args.at _ c.if-at-out.true; form = tt }
 
-pub returns-in-err-end : goal.returns-in-err-end
-returns-in-err-end c =
+pub returns-in_err-end : goal.returns-in_err-end
+returns-in_err-end c =
     let d : (Lesson × Product ℕ Week × Amount) = (record { class = 0; room = 0; period = 0 }, record { outer = 0; inner = record { number = 0 } }, record { number = pos 0 }) in
-    rw c.from-residual.ensures
-    record { text = puts_no_more (change_line c.args.letter) c.args.changes.now c.loop-change.change-index d c.loop-change-test.true c.args.out.now c.loop-change.out c.put-change.new.out c.args.at c.loop-change.end c.loop-change.invariant.0 c.in-err-end.ensures.text; form = tt }
+    rw c.from_residual.ensures
+    record { text = puts_no_more (change_line c.args.letter) c.args.changes.now c.loop-change.change-index d c.loop-change-test.true c.args.out.now c.loop-change.out c.put_change.new.out c.args.at c.loop-change.end c.loop-change.invariant.0 c.in_err-end.ensures.text; form = tt }
 
 pub loop-change-preserved : goal.loop-change-preserved
 loop-change-preserved c =
     let d : (Lesson × Product ℕ Week × Amount) = (record { class = 0; room = 0; period = 0 }, record { outer = 0; inner = record { number = 0 } }, record { number = pos 0 }) in (
-      puts_next (change_line c.args.letter) c.args.changes.now c.loop-change.change-index d c.loop-change-test.true c.args.out.now c.loop-change.out c.put-change.new.out c.args.at c.loop-change.end _ c.loop-change.invariant.0 c.in-ok-end.ensures.text,
-      All-more (λ x. FormedChange (change_value x)) c.args.changes.now c.loop-change.change-index d c.loop-change-test.true c.loop-change.invariant.1 c.put-change.ensures.form,
+      puts_next (change_line c.args.letter) c.args.changes.now c.loop-change.change-index d c.loop-change-test.true c.args.out.now c.loop-change.out c.put_change.new.out c.args.at c.loop-change.end _ c.loop-change.invariant.0 c.in_ok-end.ensures.text,
+      All-more (λ x. FormedChange (change_value x)) c.args.changes.now c.loop-change.change-index d c.loop-change-test.true c.loop-change.invariant.1 c.put_change.ensures.form,
     )
 
 pub returns : goal.returns

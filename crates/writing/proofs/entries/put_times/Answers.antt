@@ -13,17 +13,17 @@ use Rattle.writing.proofs.entries.put_times.Goals as goal
 pub returns-then-at-out : goal.returns-then-at-out
 returns-then-at-out c = record { text = puts_past c.args.out.now c.args.at _ c.if-at-out.true; form = tt }
 
-pub returns-in-err-end : goal.returns-in-err-end
-returns-in-err-end c =
+pub returns-in_err-end : goal.returns-in_err-end
+returns-in_err-end c =
     let d : Product ℕ Week = record { outer = 0; inner = record { number = 0 } } in
-    rw c.from-residual.ensures
-    record { text = puts_no_more (time_line c.args.letter) c.args.times.now c.loop-time.time-index d c.loop-time-test.true c.args.out.now c.loop-time.out c.put-time.new.out c.args.at c.loop-time.end c.loop-time.invariant.0 c.in-err-end.ensures.text; form = tt }
+    rw c.from_residual.ensures
+    record { text = puts_no_more (time_line c.args.letter) c.args.times.now c.loop-time.time-index d c.loop-time-test.true c.args.out.now c.loop-time.out c.put_time.new.out c.args.at c.loop-time.end c.loop-time.invariant.0 c.in_err-end.ensures.text; form = tt }
 
 pub loop-time-preserved : goal.loop-time-preserved
 loop-time-preserved c =
     let d : Product ℕ Week = record { outer = 0; inner = record { number = 0 } } in (
-      puts_next (time_line c.args.letter) c.args.times.now c.loop-time.time-index d c.loop-time-test.true c.args.out.now c.loop-time.out c.put-time.new.out c.args.at c.loop-time.end _ c.loop-time.invariant.0 c.in-ok-end.ensures.text,
-      All-more (λ x. FormedTime (time_value x)) c.args.times.now c.loop-time.time-index d c.loop-time-test.true c.loop-time.invariant.1 c.put-time.ensures.form,
+      puts_next (time_line c.args.letter) c.args.times.now c.loop-time.time-index d c.loop-time-test.true c.args.out.now c.loop-time.out c.put_time.new.out c.args.at c.loop-time.end _ c.loop-time.invariant.0 c.in_ok-end.ensures.text,
+      All-more (λ x. FormedTime (time_value x)) c.args.times.now c.loop-time.time-index d c.loop-time-test.true c.loop-time.invariant.1 c.put_time.ensures.form,
     )
 
 pub returns : goal.returns

@@ -9,31 +9,31 @@ use Rattle.writing.specs.Files.{messages_in}
 use Rattle.writing.proofs.Appending.{in_file, well_formed_so, posted}
 use Rattle.writing.proofs.lines_post.LinesPostWriterLessonTimeAmount.poll.Goals as goal
 
-pub returns-then-not-is-short : goal.returns-then-not-is-short
-returns-then-not-is-short c = (and_left (short (message_of lesson_value time_value amount_value c.args.item.now)) _ (sym c.is-short.ensures ∙ c.if-not-is-short.true), refl)
+pub returns-then-not-is_short : goal.returns-then-not-is_short
+returns-then-not-is_short c = (and_left (short (message_of lesson_value time_value amount_value c.args.item.now)) _ (sym c.is_short.ensures ∙ c.if-not-is_short.true), refl)
 
-pub invariant-of-self-2 : goal.invariant-of-self-2
-invariant-of-self-2 c =
+pub invariant_of-self-2 : goal.invariant_of-self-2
+invariant_of-self-2 c =
     let old = c.replace-bytes.result in
     let told = c.in-Some.ensures in
     let m = message_of lesson_value time_value amount_value c.args.item.now in
-    let said = posted old.bytes.now c.write-message.new.out old.len c.in-Some.end m old.formed told.form told.text in
-    (omega (arith, told.text.0, told.text.1), (well_formed_so (take c.in-Some.end c.write-message.new.out) (messages_in (take old.len old.bytes.now) ++ m ∷ []) said, tt))
+    let said = posted old.bytes.now c.write_message.new.out old.len c.in-Some.end m old.formed told.form told.text in
+    record { inside = omega (arith, told.text.0, told.text.1); formed = well_formed_so (take c.in-Some.end c.write_message.new.out) (messages_in (take old.len old.bytes.now) ++ m ∷ []) said }
 
 pub returns : goal.returns
 returns c =
     let old = c.replace-bytes.result in
     let told = c.in-Some.ensures in
     let m = message_of lesson_value time_value amount_value c.args.item.now in
-    let said = posted old.bytes.now c.write-message.new.out old.len c.in-Some.end m old.formed told.form told.text in
+    let said = posted old.bytes.now c.write_message.new.out old.len c.in-Some.end m old.formed told.form told.text in
     let is = c.replace-bytes.ensures.value in
     let fits = ap (λ p. leb (p.len + length (lines_of m)) (length p.bytes.now)) (sym is) ∙ le-leb (old.len + length (lines_of m)) (length old.bytes.now) (omega (arith, told.text.1, told.text.2)) in
-    (and_from (short m) _ (sym c.is-short.ensures ∙ c.if-not-is-short.false) fits, in_file (take c.in-Some.end c.write-message.new.out) (messages_in (take old.len old.bytes.now) ++ m ∷ []) said ∙ ap (λ p. messages_in (take p.len p.bytes.now) ++ m ∷ []) is)
+    (and_from (short m) _ (sym c.is_short.ensures ∙ c.if-not-is_short.false) fits, in_file (take c.in-Some.end c.write_message.new.out) (messages_in (take old.len old.bytes.now) ++ m ∷ []) said ∙ ap (λ p. messages_in (take p.len p.bytes.now) ++ m ∷ []) is)
 
-pub returns-in-default : goal.returns-in-default
-returns-in-default c =
+pub returns-in_default : goal.returns-in_default
+returns-in_default c =
     let old = c.replace-bytes.result in
-    let told = c.in-default.ensures in
+    let told = c.in_default.ensures in
     let m = message_of lesson_value time_value amount_value c.args.item.now in
     let is = c.replace-bytes.ensures.value in
     let over = ap (λ p. leb (p.len + length (lines_of m)) (length p.bytes.now)) (sym is) ∙ lt-leb (old.len + length (lines_of m)) (length old.bytes.now) told.text.1 in
