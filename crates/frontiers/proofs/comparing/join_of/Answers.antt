@@ -4,5 +4,5 @@ use Rattle.frontier.proofs.Filling.{made_few}
 use Rattle.frontiers.specs.Times.{time_value, at_or_before, later}
 use Rattle.frontiers.proofs.comparing.join_of.Goals as goal
 
-pub invariant-of-result : goal.invariant-of-result
-invariant-of-result c = let told = c.in-ok-len.ensures in (made_few at_or_before time_value (pairwise later (map time_value c.args.one.now) (map time_value c.args.other.now)) c.in-ok-len.len c.join-into.new.table told.answer.1 32 told.answer.0, tt)
+pub invariant_of-result : goal.invariant_of-result
+invariant_of-result c = let told = c.in_ok-len.ensures in record { few = made_few at_or_before time_value (pairwise later (map time_value c.args.one.now) (map time_value c.args.other.now)) c.in_ok-len.len c.join_into.new.table told.answer.1 32 told.answer.0 }
