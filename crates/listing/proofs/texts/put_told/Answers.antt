@@ -14,6 +14,6 @@ returns-in-Some c =
     let m = c.in-Some.m in
     let P = c.args.published.now in
     let T = c.args.told.now in
-    puts_as c.put-interval.result c.args.out.now c.put-interval.new.out c.args.at _ _
+    puts_as c.put_interval.result c.args.out.now c.put_interval.new.out c.args.at _ _
     (ap (λ k. interval_text (map change_value (take k P), map time_value (take (m - 0) T))) (sub_zero n) ∙ ap (λ k. interval_text (map change_value (take n P), map time_value (take k T))) (sub_zero m) ∙ ap (λ l. answer_text (accepted (interval_of l P T))) (sym c.in-Some.is))
-    c.put-interval.ensures
+    c.put_interval.ensures
