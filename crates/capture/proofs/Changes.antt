@@ -11,7 +11,6 @@ use Rattle.frontier.specs.Frontiers.{beyond}
 use Rattle.capture.specs.Kinds.{Kinds}
 use Rattle.capture.specs.Law.{how_often, one_each}
 use Rattle.capture.specs.Messages.{Change, alike, coincide, fresh, has}
-use Rattle.capture.specs.Readers.{held}
 use Rattle.capture.specs.Sender.{raised}
 use Rattle.capture.specs.Statements.{lowered}
 use Rattle.capture.proofs.Counts.{size_at, sum_at}

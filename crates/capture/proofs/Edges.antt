@@ -9,7 +9,6 @@ use Rattle.frontier.proofs.Beyond.{beyond_inserted_all, beyond_up, leq_beyond}
 use Rattle.frontier.specs.Counts.{positive, positives}
 use Rattle.frontier.specs.Frontiers.{beyond, leq}
 use Rattle.capture.specs.Kinds.{Kinds, Time}
-use Rattle.capture.specs.Law.{over}
 use Rattle.capture.specs.Messages.{Change, Statement, alike, has}
 use Rattle.capture.specs.Sender.{count_at}
 use Rattle.capture.specs.Statements.{Progress, lower_edge}

@@ -13,7 +13,7 @@ use Rattle.capture.specs.Kinds.{Kinds, Time}
 use Rattle.capture.specs.Law.{how_often, interval_changes}
 use Rattle.capture.specs.Messages.{Change, Message, Statement, changes, fresh, has, statement, those_behind, those_beyond}
 use Rattle.capture.specs.Runs.{In}
-use Rattle.capture.specs.Sender.{count_at, told}
+use Rattle.capture.specs.Sender.{count_at}
 use Rattle.capture.specs.Statements.{advanced, lower_edge, lowered}
 use Rattle.capture.proofs.Answering.{answer_cases}
 use Rattle.capture.proofs.Changes.{fresh_beyond, fresh_from, fresh_in, fresh_not_in, fresh_once, has_append, has_append_cases, has_append_left, has_append_right, has_kept, how_often_append, how_often_kept, many_at, many_at_append, many_at_kept, size_at_lowered, sum_at_lowered}

@@ -11,7 +11,7 @@ use Rattle.frontier.specs.Frontiers.{Antichain, beyond, leq}
 use Rattle.capture.specs.Answers.{Answer}
 use Rattle.capture.specs.Kinds.{Kinds, Time}
 use Rattle.capture.specs.Law.{all_stated}
-use Rattle.capture.specs.Messages.{Change, Message, Statement, changes, has, short, statement}
+use Rattle.capture.specs.Messages.{Change, Message, Statement, changes, has, statement}
 use Rattle.capture.specs.Posts.{Post, Pump, Pumped}
 use Rattle.capture.specs.Readers.{Reader}
 use Rattle.capture.specs.Runs.{At, In, World, sent, with_sender}

@@ -11,8 +11,8 @@ use Rattle.frontier.specs.Frontiers.{Antichain, beyond, join, leq, pairwise}
 use Rattle.capture.specs.Kinds.{Time}
 use Rattle.capture.specs.Messages.{Statement, short}
 use Rattle.capture.specs.Runs.{In}
-use Rattle.capture.specs.Sender.{count_at, told}
-use Rattle.capture.specs.Statements.{Progress, act, advanced, counts_beyond, drained, first_ready, fresh_progress, passed, ready, small, with_waiting}
+use Rattle.capture.specs.Sender.{count_at}
+use Rattle.capture.specs.Statements.{Progress, act, advanced, counts_beyond, drained, first_ready, fresh_progress, passed, with_waiting}
 use Rattle.capture.proofs.Chains.{Chain, Link, chain_append, chain_head, chain_leq, chain_link, chain_one}
 use Rattle.capture.proofs.Counts.{Clean, clean_added_all, size_at}
 use Rattle.capture.proofs.Lists.{in_along, in_cases, in_kept, in_left, in_more, in_none, in_one, in_right, in_same, kept_in, kept_length}

@@ -2,6 +2,8 @@
 //
 // What every call means, and the law that all runs keep, is laid down in `specs`; here are the
 // messages, the form in which they lie in tables, and the posts that take them.
+#![tactic(auto)]
+
 mod law;
 mod message;
 mod row;

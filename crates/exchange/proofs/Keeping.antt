@@ -1,20 +1,20 @@
 -- Books that come of a run keep the law, since the run does.
 use mathlib.Core.Logic.{∥∥₁_elim, ∥∥₁_map}
-use Rattle.std.proofs.Common.{◌≡◌, ℕ, Bool, T, List, ◌++◌, sym, refl, ap, subst}
+use Rattle.std.proofs.Common.{◌≡◌, ℕ, Bool, T, List, ◌++◌, sym, ap, subst}
 use lib.Dec.{T_prop}
 use Rattle.frontier.specs.Frontiers.{equal}
 use Rattle.capture.specs.Kinds.{Kinds}
 use Rattle.capture.specs.Law.{Given, all_accepted, all_recorded, change_accepted, counts_in, given_out, is_settled, one_each}
 use Rattle.capture.specs.Law as law
-use Rattle.capture.specs.Messages.{Change, Message, has}
+use Rattle.capture.specs.Messages.{has}
 use Rattle.capture.specs.Posts.{Post}
 use Rattle.capture.specs.Readers.{Reader, held, prompt, away}
-use Rattle.capture.specs.Runs.{At, Call, In}
+use Rattle.capture.specs.Runs.{At, Call}
 use Rattle.capture.proofs.Laws.{Lawful}
 use Rattle.capture.proofs.LawHolds as holds
 use Rattle.capture.proofs.Lists.{in_along}
 use Rattle.exchange.specs.Books.{Books, Office}
-use Rattle.exchange.specs.Kept.{Gave, Kept, Promises, all_stated, frontier_of, tells}
+use Rattle.exchange.specs.Kept.{Gave, Kept, all_stated, frontier_of, tells}
 use Rattle.exchange.specs.Ran.{Booked, Ran, reader_of, world}
 use Rattle.exchange.proofs.Places.{all_among, at_map}
 

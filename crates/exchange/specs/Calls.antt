@@ -5,7 +5,7 @@ use Rattle.capture.specs.Messages.{Change, Statement, Message, changes, statemen
 use Rattle.capture.specs.Answers.{is_accepted, brings}
 use Rattle.capture.specs.Held.{Held, feed}
 use Rattle.capture.specs.Prompt.{Prompt, sift, note, settle, heed}
-use Rattle.capture.specs.Sender.{Sender, record_changes, close, finish}
+use Rattle.capture.specs.Sender.{record_changes, close, finish}
 use Rattle.capture.specs.Law.{interval_changes}
 use Rattle.exchange.specs.Books.{Office, Books, held_office, prompt_office, with_sender, with_offices}
 

@@ -1,8 +1,7 @@
 -- Frontiers by the times that they hold: when two are equal, and that inserting keeps a frontier.
-use Rattle.std.proofs.Common.{◌≡◌, Bool, true, false, cond, not, ◌&&◌, ◌||◌, T, ◌⊎◌, List, [], ◌∷◌, ◌++◌, map, sym, refl, ap, ◌∙◌, subst, inl, inr, ⊎_elim}
-use mathlib.Core.Bool.{or_assoc, and_assoc}
-use Rattle.lattice.specs.Orders.{Order, Joins, at_once}
-use Rattle.lattice.proofs.Tests.{or_left, or_right, or_cases, and_intro, and_left, and_right, not_both, not_not, not_from, by_cases, not_or_left, not_or_right, not_or, cond_both, cond_true, cond_false, iff_≡, T_along, T_back}
+use Rattle.std.proofs.Common.{◌≡◌, Bool, not, ◌&&◌, T, List, [], ◌∷◌, ◌++◌, sym, ◌∙◌, subst, ⊎_elim}
+use Rattle.lattice.specs.Orders.{Order, at_once}
+use Rattle.lattice.proofs.Tests.{or_left, or_right, or_cases, and_intro, and_left, and_right, not_both, not_or_left, not_or_right, cond_both, iff_≡}
 use Rattle.frontier.specs.Frontiers.{beyond, leq, without, inserted, inserted_all, meet, pairwise, join, holds, within, equal, Apart, Antichain}
 use Rattle.frontier.proofs.Beyond.{below_refl, below_trans, below_antisym, leq_from, leq_beyond}
 

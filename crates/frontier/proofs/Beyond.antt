@@ -1,8 +1,8 @@
 -- What the times beyond a list tell of it: `leq`, `inserted` and `meet` by the times beyond them.
-use Rattle.std.proofs.Common.{◌≡◌, Bool, true, false, cond, not, ◌&&◌, ◌||◌, T, ◌⊎◌, List, [], ◌∷◌, ◌++◌, map, sym, refl, ap, ◌∙◌, subst, inl, inr, ⊎_elim}
+use Rattle.std.proofs.Common.{◌≡◌, Bool, false, not, ◌&&◌, ◌||◌, T, ◌⊎◌, List, [], ◌∷◌, ◌++◌, sym, refl, ap, ◌∙◌, inl, inr, ⊎_elim}
 use mathlib.Core.Bool.{or_assoc, and_assoc}
-use Rattle.lattice.specs.Orders.{Order, Joins, at_once}
-use Rattle.lattice.proofs.Tests.{or_left, or_right, or_cases, and_intro, and_left, and_right, not_both, not_not, not_from, by_cases, not_or_left, not_or_right, not_or, cond_both, cond_true, cond_false, iff_≡, T_along, T_back}
+use Rattle.lattice.specs.Orders.{Order}
+use Rattle.lattice.proofs.Tests.{or_left, or_right, or_cases, and_intro, and_left, and_right, not_not, cond_both, iff_≡, T_along, T_back}
 use Rattle.frontier.specs.Frontiers.{beyond, leq, without, inserted, inserted_all, meet}
 
 module _ {A : Type 0} {below : A → A → Bool} (order : Order below) where

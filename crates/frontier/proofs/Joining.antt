@@ -1,9 +1,8 @@
 -- The join of two lists by the times beyond it.
-use Rattle.std.proofs.Common.{◌≡◌, Bool, true, false, cond, not, ◌&&◌, ◌||◌, T, ◌⊎◌, List, [], ◌∷◌, ◌++◌, map, sym, refl, ap, ◌∙◌, subst, inl, inr, ⊎_elim}
-use mathlib.Core.Bool.{or_assoc, and_assoc}
-use Rattle.lattice.specs.Orders.{Order, Joins, at_once}
-use Rattle.lattice.proofs.Tests.{or_left, or_right, or_cases, and_intro, and_left, and_right, not_both, not_not, not_from, by_cases, not_or_left, not_or_right, not_or, cond_both, cond_true, cond_false, iff_≡, T_along, T_back}
-use Rattle.frontier.specs.Frontiers.{beyond, leq, inserted_all, pairwise, join}
+use Rattle.std.proofs.Common.{◌≡◌, Bool, true, false, ◌&&◌, ◌||◌, T, List, [], ◌∷◌, map, refl, ap, ◌∙◌, ⊎_elim}
+use Rattle.lattice.specs.Orders.{Order, Joins}
+use Rattle.lattice.proofs.Tests.{or_left, or_right, or_cases, and_intro, and_left, and_right, iff_≡, T_along, T_back}
+use Rattle.frontier.specs.Frontiers.{beyond, leq, pairwise, join}
 use Rattle.frontier.proofs.Beyond.{below_trans, leq_from, leq_beyond, beyond_append, beyond_inserted_all}
 
 module _ {A : Type 0} {below : A → A → Bool} {joined : A → A → A} (order : Order below) (joins : Joins below joined) where

@@ -3,6 +3,8 @@
 // A table is a lent slice whose first entries are in use.  A frontier has at most 32 times, so a
 // table for one has at least 32 entries; a longer one is taken, and its further entries are left
 // alone.  A refused call leaves every table as it was.
+#![tactic(auto)]
+
 mod antichain;
 mod counts;
 mod joins;

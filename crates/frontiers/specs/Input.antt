@@ -1,5 +1,5 @@
 -- What the lines of the input say.
-use Rattle.std.specs.Prelude.{ℕ, ◌+◌, Bool, cond, List, [], ◌∷◌, ◌++◌, Some, None, Ok, Err, Option, Result, ◌==◌}
+use Rattle.std.specs.Prelude.{ℕ, ◌+◌, cond, List, [], ◌∷◌, ◌++◌, Some, None, Ok, Err, Option, Result, ◌==◌}
 use Rattle.lines.specs.Cuts.{cut_at, split_from}
 use Rattle.lines.specs.Numbers.{number_in}
 use Rattle.timetable.specs.Weeks.{is_week}

@@ -2,6 +2,8 @@
 //
 // The lists stand on standard input, a time to a line: L, round and week for the first list, H,
 // round and week for the second, parted by tabs.
+#![tactic(auto)]
+
 mod comparing;
 mod fault;
 mod frontier_table;

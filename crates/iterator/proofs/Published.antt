@@ -1,5 +1,5 @@
 -- The interval that is let out, by what the tables read as.
-use Rattle.std.proofs.Common.{◌≡◌, Bool, true, false, cond, List, Some, None, Option, sym, ap, ◌∙◌}
+use Rattle.std.proofs.Common.{◌≡◌, true, false, cond, List, Some, None, Option, sym, ap, ◌∙◌}
 use Rattle.std.proofs.lemmas.Bool.{cond-true, cond-false}
 use Rattle.frontier.specs.Frontiers.{equal}
 use Rattle.capture.specs.Held.{Held, published}

@@ -1,10 +1,10 @@
 -- Question 1: tables that are at least their sizes, as tests and as numbers.
-use Rattle.std.proofs.Common.{◌≡◌, ℕ, ◌≤◌, Bool, true, ◌&&◌, leb, List, length, ℤ}
+use Rattle.std.proofs.Common.{◌≡◌, ℕ, ◌≤◌, true, ◌&&◌, leb, List, length, ℤ}
 use Rattle.std.proofs.lemmas.Bool.{and_from, and_parts, le-leb, leb-true}
 use Rattle.frontier.specs.Tables.{frontier_size}
 use Rattle.capture.specs.Sizes.{reader_changes, reader_counts, reader_statements}
 use Rattle.capture.specs.declared.stored.StoredProgress.{StoredProgress}
-use Rattle.iterator.specs.Readers.{Tables, few, Few, own_sized, answers_sized, scratch_sized, all_sized, Sized}
+use Rattle.iterator.specs.Readers.{Tables, few, own_sized, answers_sized, scratch_sized, all_sized, Sized}
 use Rattle.iterator.specs.declared.held.Held.{Held}
 
 -- five numbers, each at most its bound

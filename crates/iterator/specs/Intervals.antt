@@ -1,5 +1,5 @@
 -- The interval that a held reader lets out, in its tables.
-use Rattle.std.specs.Prelude.{◌≡◌, ℕ, ◌-◌, ◌≤◌, Bool, true, false, List, length, drop, Some, None, Option}
+use Rattle.std.specs.Prelude.{◌≡◌, ℕ, ◌-◌, Bool, true, false, List, drop, Some, None, Option}
 use Rattle.frontier.specs.Frontiers.{equal}
 use Rattle.frontier.specs.Tables.{in_use, Holds}
 use Rattle.capture.specs.Messages.{Change, those_behind, those_beyond}

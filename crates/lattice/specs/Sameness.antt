@@ -1,5 +1,5 @@
 -- What data and amounts show: a test that says yes exactly for equal values.
-use Rattle.std.specs.Prelude.{◌≡◌, ℕ, Bool, false, T, ℤ, pos, negsuc, ◌==◌}
+use Rattle.std.specs.Prelude.{◌≡◌, Bool, false, T, ℤ, pos, negsuc, ◌==◌}
 
 -- the test says yes for equal values, and for no others
 pub record Exact {A : Type 0} (alike : A → A → Bool) : Type 0 where

@@ -2,6 +2,8 @@
 //
 // A stored value *reads as* a value of the trait's `Value`, and all that is promised is said of
 // what values read as.  So two stored values that read alike are equal in every promise above.
+#![tactic(auto)]
+
 ghost use Rattle.std.specs.Prelude.{◌≡◌, Bool, true, T, Decides};
 ghost use Rattle.lattice.specs.Orders.{Order, Joins, Meets, Starts, at_once};
 ghost use Rattle.lattice.specs.Sameness.{Exact};

@@ -1,5 +1,5 @@
 -- One line more of a statement.
-use Rattle.std.proofs.Common.{◌≡◌, ℕ, Bool, true, false, cond, ◌&&◌, ltb, leb, List, [], ◌∷◌, ◌++◌, map, length, take, sym, refl, ap, ◌∙◌}
+use Rattle.std.proofs.Common.{◌≡◌, ℕ, Bool, true, false, ◌&&◌, ltb, leb, [], ◌∷◌, ◌++◌, map, length, take, sym, refl, ap, ◌∙◌}
 use Rattle.std.proofs.lemmas.Bool.{cond-true}
 use Rattle.lattice.specs.declared.product.Product.{Product}
 use Rattle.timetable.specs.declared.week.Week.{Week}
@@ -7,7 +7,7 @@ use Rattle.capture.specs.Messages.{Statement}
 use Rattle.capture.specs.Views.{count_of}
 use Rattle.capture.specs.Rows.{row}
 use Rattle.lines.specs.Said.{a_lower, an_upper, a_count}
-use Rattle.lines.specs.Format.{in_statement, goes_on, stops, step, until_lower, until_upper}
+use Rattle.lines.specs.Format.{in_statement, goes_on, stops, until_lower, until_upper}
 use Rattle.lines.specs.Values.{time_value}
 use Rattle.lines.specs.Statements.{Keeps, Takes}
 use Rattle.lines.specs.declared.statement.StatementRows.{StatementRows}

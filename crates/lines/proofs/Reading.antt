@@ -1,7 +1,6 @@
 -- How a file goes on behind a line.
-use Rattle.std.proofs.Common.{◌≡◌, ℕ, zero, suc, ◌+◌, ◌<◌, ◌≤◌, min, Bool, true, false, cond, ◌&&◌, eqb, ltb, leb, List, [], ◌∷◌, ◌++◌, map, length, take, drop, Some, None, Ok, Err, Option, Result, sym, refl, ap, ◌∙◌, arith}
-use Rattle.std.proofs.lemmas.List.{length-take, length_push, length-map, map_push, take-map, take_all, take-append-le}
-use Rattle.std.proofs.lemmas.Bool.{eqb-true, le-leb, lt-leb}
+use Rattle.std.proofs.Common.{◌≡◌, ℕ, zero, suc, ◌+◌, min, Bool, ◌&&◌, ltb, leb, List, [], ◌∷◌, ◌++◌, map, length, take, Some, None, Err, sym, refl, ap, ◌∙◌, arith}
+use Rattle.std.proofs.lemmas.List.{length-take, length_push, length-map, map_push, take-map}
 use Rattle.std.proofs.lemmas.Bool.Decides.{nat_tests}
 use Rattle.lattice.specs.declared.product.Product.{Product}
 use Rattle.timetable.specs.declared.week.Week.{Week}
@@ -17,7 +16,7 @@ use Rattle.lines.specs.declared.line.Line.TheVariants.{Updates, Progress, Update
 use Rattle.lines.specs.Cuts.{cut_at, split_from}
 use Rattle.lines.specs.Said.{Said, a_change, line_says, line_value}
 use Rattle.lines.specs.Values.{time_value}
-use Rattle.lines.specs.Format.{LessonChange, LessonMessage, Draft, outside, in_changes, in_statement, Next, goes_on, completes, stops, step, with_message, closes, reads, says_from}
+use Rattle.lines.specs.Format.{LessonChange, LessonMessage, Draft, outside, in_changes, goes_on, completes, stops, step, with_message, closes, reads, says_from}
 use Rattle.lines.specs.Ahead.{left, ahead, Fronts}
 use Rattle.lines.specs.declared.line_reader.LineReader.{LineReader}
 use Rattle.lines.proofs.Cutting.{split_at, split_end}

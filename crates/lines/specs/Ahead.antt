@@ -1,16 +1,16 @@
 -- What is ahead of a reader of lines.
-use Rattle.std.specs.Prelude.{◌≡◌, ℕ, ◌<◌, Bool, List, [], map, length, take, drop, Ok, Result}
+use Rattle.std.specs.Prelude.{◌≡◌, ℕ, ◌<◌, Bool, List, [], map, length, take, drop, Result}
 use Rattle.lattice.specs.declared.product.Product.{Product}
 use Rattle.timetable.specs.declared.week.Week.{Week}
 use Rattle.timetable.specs.declared.lesson.Lesson.{Lesson}
 use Rattle.timetable.specs.declared.amount.Amount.{Amount}
 use Rattle.timetable.specs.Lessons.{lesson_value, amount_value}
-use Rattle.capture.specs.Messages.{Statement, Message, changes, statement, short, short_changes, short_statement}
-use Rattle.capture.specs.Sizes.{message_changes, statement_times, statement_counts}
-use Rattle.capture.specs.Views.{change_of, count_of}
+use Rattle.capture.specs.Messages.{changes, short_changes}
+use Rattle.capture.specs.Sizes.{message_changes}
+use Rattle.capture.specs.Views.{change_of}
 use Rattle.capture.specs.Rows.{row}
 use Rattle.capture.specs.declared.row.Row.{Row}
-use Rattle.lines.specs.Format.{LessonChange, LessonMessage, Draft, outside, in_changes, in_statement, with_message, says_from}
+use Rattle.lines.specs.Format.{LessonChange, LessonMessage, Draft, outside, in_changes, with_message, says_from}
 use Rattle.lines.specs.Values.{time_value}
 use Rattle.lines.specs.declared.line_reader.LineReader.{LineReader}
 

@@ -1,6 +1,6 @@
 -- A block with the message that was read last.
-use Rattle.std.specs.Prelude.{◌≡◌, ℕ, ◌<◌, Bool, true, false, cond, List, [], length, take, Ok}
-use Rattle.capture.specs.Messages.{Statement, changes, statement, short}
+use Rattle.std.specs.Prelude.{◌≡◌, ◌<◌, Bool, true, false, cond, [], length, take, Ok}
+use Rattle.capture.specs.Messages.{changes, statement, short}
 use Rattle.capture.specs.Sizes.{message_changes, statement_times, statement_counts}
 use Rattle.lines.specs.Format.{LessonMessage, Draft, outside, with_message}
 use Rattle.lines.specs.Ahead.{left, ahead, changes_in}

@@ -2,7 +2,7 @@
 use Rattle.std.specs.Prelude.{ℕ, cond, List, [], ◌∷◌, ℤ, Some, None, Option, ◌==◌}
 use Rattle.timetable.specs.Lessons.{lesson_value, amount_value}
 use Rattle.capture.specs.Messages.{Change}
-use Rattle.capture.specs.Views.{change_of, count_of}
+use Rattle.capture.specs.Views.{change_of}
 use Rattle.lines.specs.Numbers.{alone}
 use Rattle.lines.specs.Fields.{then, behind_tab, time_in, change_in, count_in}
 use Rattle.lines.specs.Values.{time_value}

@@ -1,4 +1,6 @@
 // The line format: numbers as bytes, and lines and fields as parts of the bytes that hold them.
+#![tactic(auto)]
+
 mod block;
 mod cuts;
 mod fields;

@@ -1,16 +1,16 @@
 -- Feed, of the message that a block has.
-use Rattle.std.proofs.Common.{◌≡◌, ℕ, ◌≤◌, Bool, true, false, cond, ◌&&◌, leb, List, [], ◌∷◌, ◌++◌, length, take, Some, None, Option, sym, refl, ap, ◌∙◌}
+use Rattle.std.proofs.Common.{◌≡◌, ℕ, Bool, true, false, leb, List, length, take, Some, None, ap, ◌∙◌}
 use Rattle.std.proofs.lemmas.List.{take_all}
 use Rattle.std.proofs.lemmas.Bool.{cond-false, leb-true, and_parts}
 use Rattle.questions.specs.Questions.{first_no}
-use Rattle.capture.specs.Answers.{Answer, refused, accepted, answer}
-use Rattle.capture.specs.Held.{feed, feed_asks, taken_in, published}
-use Rattle.capture.specs.Messages.{Statement, changes, statement, short, short_changes, short_statement}
+use Rattle.capture.specs.Answers.{refused, accepted, answer}
+use Rattle.capture.specs.Held.{feed_asks, taken_in, published}
+use Rattle.capture.specs.Messages.{changes, statement, short, short_changes, short_statement}
 use Rattle.capture.specs.Sizes.{message_changes, statement_times, statement_counts}
 use Rattle.lines.specs.Format.{LessonMessage}
 use Rattle.lines.specs.Blocks.{front_of}
 use Rattle.listing.specs.Lessons.{lesson_kinds, LessonReader}
-use Rattle.listing.specs.Listing.{Interval, fed}
+use Rattle.listing.specs.Listing.{fed}
 
 -- the front of a message that is not too long is all of it
 pub front_whole : (m : LessonMessage) → short m ≡ true → front_of m ≡ m

@@ -1,5 +1,5 @@
 -- The number of a malformed line is at most one more than the bytes of its file.
-use Rattle.std.proofs.Common.{◌≡◌, ℕ, suc, ◌+◌, ◌≤◌, Bool, true, false, cond, eqb, List, [], ◌∷◌, ◌++◌, length, Some, None, Ok, Err, Option, Result, sym, refl, ap, ◌∙◌, arith}
+use Rattle.std.proofs.Common.{◌≡◌, ℕ, ◌+◌, ◌≤◌, true, false, cond, eqb, List, [], ◌∷◌, ◌++◌, length, Some, None, Ok, Err, Option, Result, arith}
 use Rattle.lines.specs.Cuts.{split_from}
 use Rattle.lines.specs.Said.{Said, line_says}
 use Rattle.lines.specs.Format.{LessonMessage, Draft, outside, in_changes, in_statement, Next, goes_on, completes, stops, step, with_message, closes, reads, file_says}

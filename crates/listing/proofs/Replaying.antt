@@ -1,8 +1,8 @@
 -- How far a replay has come, message by message.
-use Rattle.std.proofs.Common.{◌≡◌, ℕ, ◌+◌, ◌<◌, ◌≤◌, Bool, true, false, List, [], ◌∷◌, ◌++◌, length, Some, None, Ok, Err, Option, Result, sym, refl, ap, ◌∙◌, subst, append_assoc, arith}
+use Rattle.std.proofs.Common.{◌≡◌, ℕ, ◌+◌, ◌≤◌, true, List, [], ◌∷◌, ◌++◌, length, Some, None, Ok, Err, Option, Result, sym, refl, ap, ◌∙◌, append_assoc, arith}
 use Rattle.capture.specs.Answers.{Answer, refused, accepted}
 use Rattle.capture.specs.Held.{fresh_held}
-use Rattle.lines.specs.Format.{LessonMessage, outside, with_message, says_from, file_says}
+use Rattle.lines.specs.Format.{LessonMessage, outside, with_message, says_from}
 use Rattle.lines.specs.Ahead.{left, ahead}
 use Rattle.lines.specs.Blocks.{Reads}
 use Rattle.lines.specs.declared.line_reader.LineReader.{LineReader}

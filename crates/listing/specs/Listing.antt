@@ -1,5 +1,5 @@
 -- Replay: what a file's messages make of a fresh held reader, as a listing.
-use Rattle.std.specs.Prelude.{ℕ, ◌+◌, ◌*◌, min, Bool, true, cond, List, [], ◌∷◌, ◌++◌, length, drop, ℤ, pos, neg_ℤ, Some, None, Ok, Err, Option, Result, nat_le}
+use Rattle.std.specs.Prelude.{ℕ, ◌+◌, ◌*◌, min, true, cond, List, [], ◌∷◌, ◌++◌, length, drop, ℤ, pos, neg_ℤ, Some, None, Ok, Err, Option, Result, nat_le}
 use Rattle.std.specs.List.{flat_map}
 use Rattle.capture.specs.Answers.{Answer, refused, accepted}
 use Rattle.capture.specs.Held.{feed, fresh_held}

@@ -1,5 +1,5 @@
 -- How the questions of an act are answered, and how acts follow one another.
-use Rattle.std.proofs.Common.{◌≡◌, ℕ, suc, ◌<◌, ◌≤◌, Bool, true, false, not, ◌&&◌, T, ltb, List, [], ◌∷◌, ◌++◌, length, get_or, take, drop, ℤ, Some, None, Option, sym, refl, ap, ◌∙◌, arith}
+use Rattle.std.proofs.Common.{◌≡◌, ℕ, suc, ◌<◌, ◌≤◌, Bool, true, false, not, ◌&&◌, T, ltb, List, [], ◌∷◌, ◌++◌, length, get_or, take, drop, ℤ, Some, None, refl, ap, ◌∙◌, arith}
 use Rattle.std.specs.List.{prefix_len}
 use Rattle.std.proofs.lemmas.Bool.{cond-true, cond-false, and_parts}
 use Rattle.questions.specs.Questions.{first_no}
@@ -13,7 +13,7 @@ use Rattle.frontier.proofs.Joining.{leq_join_left}
 use Rattle.capture.specs.Kinds.{Time}
 use Rattle.capture.specs.Messages.{Statement}
 use Rattle.capture.specs.Sizes.{reader_counts, reader_statements}
-use Rattle.capture.specs.Statements.{Progress, passed, ready, not_passed, counts_beyond, first_ready, with_waiting, act, act_asks, drained, drain_asks, advanced}
+use Rattle.capture.specs.Statements.{Progress, passed, ready, counts_beyond, first_ready, with_waiting, act, act_asks, drained, drain_asks, advanced}
 use Rattle.progress.specs.Tables.{progress_sized, ProgressSized, turns_asks, course_asks}
 use Rattle.progress.specs.declared.statements.Lengths.{Lengths}
 use Rattle.progress.proofs.Waiting.{unready, first_at, first_none, kept_without}

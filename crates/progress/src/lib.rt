@@ -3,6 +3,8 @@
 // All tables are lent to each call; the first entries of each are in use.  `take_fresh`,
 // `keep_beyond`, `append_entries` and `copy_progress` are steps of our own readers, which see that
 // the tables have the entries.
+#![tactic(auto)]
+
 mod changes;
 mod copies;
 mod edges;

@@ -2,6 +2,8 @@
 //
 // A call asks the questions that concern it in the order of their numbers.  The first one
 // answered no refuses the call, which then leaves every table as it was.
+#![tactic(auto)]
+
 ghost use Rattle.std.specs.Prelude.{◌≡◌};
 ghost use Rattle.questions.specs.Questions.{number_of};
 

@@ -1,11 +1,11 @@
 -- What a close and a finish ask and leave.
-use Rattle.std.proofs.Common.{◌≡◌, ℕ, ◌+◌, ◌-◌, ◌<◌, ◌≤◌, Bool, true, false, cond, not, ◌&&◌, ltb, leb, List, [], ◌∷◌, ◌++◌, map, length, take, ℤ, Some, None, filter, sym, refl, ap, ◌∙◌, arith}
+use Rattle.std.proofs.Common.{◌≡◌, ℕ, ◌+◌, ◌-◌, ◌<◌, ◌≤◌, Bool, true, false, not, ◌&&◌, ltb, leb, List, [], ◌∷◌, ◌++◌, map, length, take, ℤ, Some, None, filter, sym, refl, ap, ◌∙◌, arith}
 use Rattle.std.proofs.lemmas.List.{length-map, length-take}
 use Rattle.std.proofs.lemmas.Bool.{and_from, and_parts, leb-true, ltb-true, le-leb}
 use Rattle.questions.specs.Questions.{first_no}
 use Rattle.lattice.specs.Orders.{Order}
-use Rattle.frontier.specs.Frontiers.{beyond, leq, fits, inserted_all}
-use Rattle.frontier.specs.Tables.{in_use, Holds, counted, frontier_size}
+use Rattle.frontier.specs.Frontiers.{leq, fits, inserted_all}
+use Rattle.frontier.specs.Tables.{in_use, counted, frontier_size}
 use Rattle.frontier.proofs.Tables.{sub_zero, length_in_use}
 use Rattle.frontier.proofs.Filling.{fit_length, inserting}
 use Rattle.frontier.proofs.Beyond.{beyond_inserted_all}

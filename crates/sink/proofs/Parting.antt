@@ -1,5 +1,5 @@
 -- The counts that are announced and those that stay: how the loops that part them go on.
-use Rattle.std.proofs.Common.{◌≡◌, ℕ, ◌+◌, ◌<◌, ◌≤◌, Bool, true, false, cond, not, ◌&&◌, leb, List, [], ◌∷◌, ◌++◌, map, length, take, drop, ℤ, Some, None, filter, sym, refl, ap, ◌∙◌, arith}
+use Rattle.std.proofs.Common.{◌≡◌, ℕ, ◌≤◌, Bool, true, false, cond, not, ◌&&◌, leb, List, [], ◌∷◌, ◌++◌, map, length, take, ℤ, Some, filter, sym, refl, ap, ◌∙◌, arith}
 use Rattle.std.proofs.lemmas.List.{append_assoc, append-nil, length-map, length-take-le}
 use Rattle.std.proofs.lemmas.List.Filters.{FiltersInPlace}
 use Rattle.questions.specs.Questions.{first_no}
@@ -8,7 +8,6 @@ use Rattle.frontier.specs.Tables.{in_use, Holds, counted}
 use Rattle.capture.specs.Sizes.{largest_count}
 use Rattle.capture.specs.Statements.{small}
 use Rattle.capture.specs.Sender.{told, announced, retained}
-use Rattle.capture.specs.Views.{count_of}
 
 -- the one question that was asked was answered no
 pub only_no : (b : Bool) (n m : ℕ) → first_no ((b, n) ∷ []) ≡ Some m → (b ≡ false) × (m ≡ n)

@@ -4,7 +4,7 @@ use Rattle.std.specs.List.{list_all}
 use Rattle.std.proofs.lemmas.Bool.{leb-true, ltb-true}
 use Rattle.questions.specs.Questions.{first_no}
 use Rattle.frontier.specs.Frontiers.{beyond}
-use Rattle.frontier.specs.Counts.{added_all, room}
+use Rattle.frontier.specs.Counts.{room}
 use Rattle.frontier.specs.Tables.{in_use, counted}
 use Rattle.frontier.proofs.Tables.{sub_zero, length_in_use}
 use Rattle.frontier.proofs.Filling.{fit_length, adding}

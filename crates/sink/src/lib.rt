@@ -1,4 +1,6 @@
 // The sender and its pumps.
+#![tactic(auto)]
+
 mod announcing;
 mod counting;
 mod pump;

@@ -1,19 +1,15 @@
 -- What a heed and putting away come to.
-use Rattle.std.proofs.Common.{◌≡◌, ℕ, ◌-◌, ◌≤◌, Bool, true, false, List, [], ◌∷◌, map, length, take, ℤ, Some, None, Ok, Err, Result, sym, refl, ap, ◌∙◌, arith}
-use Rattle.questions.specs.declared.Refusal.{Refusal}
+use Rattle.std.proofs.Common.{◌≡◌, ℕ, ◌-◌, Bool, true, false, List, [], map, length, take, Ok, Err, sym, refl, ap, ◌∙◌, arith}
 use Rattle.questions.specs.declared.Refusal.TheVariants.{ShortTable}
-use Rattle.questions.specs.Questions.{first_no}
 use Rattle.questions.proofs.Asking.{ask_next, ask_here}
-use Rattle.frontier.specs.Tables.{in_use, Holds, counted, sized}
+use Rattle.frontier.specs.Tables.{in_use, Holds, sized}
 use Rattle.frontier.proofs.Tables.{sub_zero, length_in_use, sized_tells}
-use Rattle.capture.specs.Answers.{Answer, accepted, refused, only_tables}
+use Rattle.capture.specs.Answers.{accepted, only_tables}
 use Rattle.capture.specs.Kinds.{Kinds}
 use Rattle.capture.specs.Messages.{Change, those_beyond}
 use Rattle.capture.specs.Prompt.{Prompt as Meant, heed}
-use Rattle.capture.specs.Readers.{Reader, prompt, away}
+use Rattle.capture.specs.Readers.{prompt, away}
 use Rattle.capture.specs.Sizes.{reader_changes}
-use Rattle.capture.specs.Statements.{Progress}
-use Rattle.capture.specs.declared.stored.StoredProgress.{StoredProgress}
 use Rattle.capture.proofs.Answering.{answer_made, answer_refused}
 use Rattle.source.specs.declared.prompt.Prompt.{Prompt}
 use Rattle.source.specs.Tables.{prompt_of, heed_sized}

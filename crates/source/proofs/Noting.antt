@@ -1,5 +1,5 @@
 -- What a note comes to.
-use Rattle.std.proofs.Common.{◌≡◌, ℕ, ◌≤◌, Bool, true, false, ◌&&◌, List, [], ◌∷◌, map, length, take, ℤ, Some, None, Ok, Err, sym, refl, ap, ◌∙◌, arith}
+use Rattle.std.proofs.Common.{◌≡◌, ◌≤◌, Bool, true, false, List, [], ◌∷◌, map, length, take, ℤ, Some, None, Ok, Err, sym, refl, ap, ◌∙◌, arith}
 use Rattle.std.proofs.lemmas.Bool.{and_from}
 use Rattle.questions.specs.declared.Refusal.{Refusal}
 use Rattle.questions.specs.declared.Refusal.TheVariants.{ShortTable}
@@ -15,7 +15,7 @@ use Rattle.capture.specs.Statements.{Progress, advanced, statement_asks}
 use Rattle.capture.specs.Stored.{stored_statement}
 use Rattle.capture.specs.declared.stored.StoredProgress.{StoredProgress}
 use Rattle.capture.proofs.Answering.{answer_made}
-use Rattle.progress.specs.Tables.{progress_of, progress_sized, ProgressSized, HoldsProgress}
+use Rattle.progress.specs.Tables.{progress_of, progress_sized, ProgressSized}
 use Rattle.progress.specs.declared.statements.Lengths.{Lengths}
 use Rattle.progress.proofs.Acting.{same_progress}
 use Rattle.source.specs.declared.prompt.Prompt.{Prompt}

@@ -1,8 +1,8 @@
 -- What a settle comes to.
-use Rattle.std.proofs.Common.{◌≡◌, ℕ, ◌-◌, ◌≤◌, Bool, true, false, List, [], ◌∷◌, map, length, take, ℤ, Some, None, Ok, Err, sym, refl, ap, ◌∙◌, arith}
+use Rattle.std.proofs.Common.{◌≡◌, ℕ, ◌-◌, ◌≤◌, Bool, true, false, List, [], ◌∷◌, map, length, take, ℤ, None, Ok, Err, sym, refl, ap, ◌∙◌, arith}
 use Rattle.questions.specs.declared.Refusal.{Refusal}
 use Rattle.questions.specs.declared.Refusal.TheVariants.{ShortTable}
-use Rattle.questions.specs.Questions.{first_no, number_of}
+use Rattle.questions.specs.Questions.{first_no}
 use Rattle.questions.proofs.Asking.{ask_next, ask_here, asked_all}
 use Rattle.frontier.specs.Counts.{added_all, room, positives}
 use Rattle.frontier.specs.Frontiers.{inserted_all, fits}
@@ -13,7 +13,6 @@ use Rattle.capture.specs.Kinds.{Kinds}
 use Rattle.capture.specs.Messages.{Change}
 use Rattle.capture.specs.Prompt.{Prompt as Meant, settle_asks, settle}
 use Rattle.capture.specs.Sizes.{reader_counts}
-use Rattle.capture.specs.declared.stored.StoredProgress.{StoredProgress}
 use Rattle.capture.proofs.Answering.{answer_made}
 use Rattle.source.specs.declared.prompt.Prompt.{Prompt}
 use Rattle.source.specs.Tables.{prompt_of, settle_sized}

@@ -1,21 +1,20 @@
 -- What a sift comes to.
-use Rattle.std.proofs.Common.{◌≡◌, ℕ, ◌+◌, ◌-◌, ◌≤◌, Bool, true, false, leb, List, [], ◌∷◌, ◌++◌, map, length, take, drop, ℤ, Some, None, Ok, Err, sym, refl, ap, ◌∙◌, arith}
+use Rattle.std.proofs.Common.{◌≡◌, ℕ, ◌+◌, ◌-◌, ◌≤◌, Bool, true, false, leb, List, [], ◌∷◌, ◌++◌, map, length, take, drop, ℤ, None, Ok, Err, sym, refl, ap, ◌∙◌, arith}
 use Rattle.std.proofs.lemmas.List.{length-append, map-append}
 use Rattle.std.proofs.lemmas.Bool.{leb-true}
 use Rattle.questions.specs.declared.Refusal.{Refusal}
 use Rattle.questions.specs.declared.Refusal.TheVariants.{ShortTable}
-use Rattle.questions.specs.Questions.{first_no, number_of}
+use Rattle.questions.specs.Questions.{first_no}
 use Rattle.questions.proofs.Asking.{ask_next, ask_here, asked_all}
-use Rattle.frontier.specs.Counts.{added_all, room}
+use Rattle.frontier.specs.Counts.{room}
 use Rattle.frontier.specs.Tables.{in_use, Holds, counted}
 use Rattle.frontier.proofs.Filling.{fit_length, adding}
 use Rattle.frontier.proofs.Tables.{sub_zero, length_in_use}
 use Rattle.capture.specs.Kinds.{Kinds}
 use Rattle.capture.specs.Messages.{Change, short_changes, fresh}
-use Rattle.capture.specs.Prompt.{Prompt as Meant, undisputed, shipped, sift_asks, sift}
+use Rattle.capture.specs.Prompt.{Prompt as Meant, undisputed, sift_asks, sift}
 use Rattle.capture.specs.Sizes.{reader_changes, reader_counts}
 use Rattle.capture.specs.Statements.{lowered}
-use Rattle.capture.specs.declared.stored.StoredProgress.{StoredProgress}
 use Rattle.capture.proofs.Answering.{answer_made}
 use Rattle.source.specs.declared.prompt.Prompt.{Prompt}
 use Rattle.source.specs.Tables.{prompt_of, sift_sized}

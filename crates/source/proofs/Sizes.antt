@@ -3,7 +3,7 @@ use Rattle.std.proofs.Common.{◌≡◌, ℕ, ◌≤◌, Bool, true, ◌&&◌, L
 use Rattle.std.proofs.lemmas.Bool.{and_parts}
 use Rattle.frontier.specs.Tables.{sized, frontier_size}
 use Rattle.frontier.proofs.Tables.{sized_tells}
-use Rattle.capture.specs.Sizes.{reader_changes, reader_counts, reader_statements}
+use Rattle.capture.specs.Sizes.{reader_changes, reader_counts}
 use Rattle.capture.specs.declared.stored.StoredProgress.{StoredProgress}
 use Rattle.progress.specs.Tables.{progress_sized, ProgressSized}
 use Rattle.progress.proofs.Acting.{progress_room}

@@ -1,5 +1,5 @@
 -- What changes, and the waiting counts, come to when they are weighed in scratch tables.
-use Rattle.std.proofs.Common.{◌≡◌, ℕ, ◌+◌, ◌-◌, ◌<◌, ◌≤◌, Bool, true, false, leb, List, [], ◌∷◌, ◌++◌, map, length, take, ℤ, Some, None, Ok, Err, sym, refl, ap, ◌∙◌, arith}
+use Rattle.std.proofs.Common.{◌≡◌, ℕ, ◌+◌, ◌-◌, ◌<◌, ◌≤◌, Bool, true, false, leb, List, [], ◌∷◌, ◌++◌, map, length, take, ℤ, Some, None, Ok, Err, sym, ap, ◌∙◌, arith}
 use Rattle.std.proofs.lemmas.List.{length-map, length-append, take_all}
 use Rattle.std.proofs.lemmas.Bool.{le-leb, lt-leb}
 use Rattle.questions.specs.declared.Refusal.{Refusal}
@@ -16,7 +16,7 @@ use Rattle.capture.specs.Messages.{Change, short_changes, fresh}
 use Rattle.capture.specs.Prompt.{undisputed}
 use Rattle.capture.specs.Sizes.{message_changes, reader_changes, reader_counts}
 use Rattle.capture.specs.Statements.{lowered}
-use Rattle.source.specs.Weighing.{Weighed, Brought, changes_asks, sums_asks}
+use Rattle.source.specs.Weighing.{Weighed, Brought, sums_asks}
 
 -- questions 2, 8, 9 and 11, one after the other
 module _ (a b c d : Bool) where

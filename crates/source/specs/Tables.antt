@@ -3,7 +3,7 @@ use Rattle.std.specs.Prelude.{Bool, ◌&&◌, List, length, ℤ}
 use Rattle.frontier.specs.Tables.{in_use, sized, counted, frontier_size}
 use Rattle.capture.specs.Messages.{Change}
 use Rattle.capture.specs.Prompt.{Prompt as Meant}
-use Rattle.capture.specs.Sizes.{reader_changes, reader_counts, reader_statements}
+use Rattle.capture.specs.Sizes.{reader_changes, reader_counts}
 use Rattle.capture.specs.Statements.{Progress}
 use Rattle.capture.specs.declared.stored.StoredProgress.{StoredProgress}
 use Rattle.progress.specs.Tables.{progress_of, progress_sized}

@@ -1,4 +1,6 @@
 // A post in a table.
+#![tactic(auto)]
+
 ghost use Rattle.std.specs.Prelude.{◌≡◌, ◌≤◌, true, ◌&&◌, [], ◌∷◌, map, length, nat_le, nat_lt};
 ghost use Rattle.questions.specs.Answers.{Answered};
 ghost use Rattle.capture.specs.Messages.{short};

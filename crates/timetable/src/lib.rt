@@ -3,6 +3,8 @@
 // Weeks, lessons and amounts lie in tables as plain numbers that only their own modules write.
 // Their makers refuse a number that has not its form, and a stored one that has not reads as the
 // least that has; so every reading keeps the form, whatever a table holds.
+#![tactic(auto)]
+
 mod amount;
 mod lesson;
 mod options;

@@ -1,3 +1,5 @@
+#![tactic(auto)]
+
 // Examples and limits of the libraries, run as tests.  They stand in a crate of their own, so that
 // no library is proved a second time for its tests.
 #[cfg(test)]

@@ -7,7 +7,7 @@ use Rattle.timetable.specs.declared.week.Week.{Week}
 use Rattle.timetable.specs.declared.lesson.Lesson.{Lesson}
 use Rattle.timetable.specs.declared.amount.Amount.{Amount}
 use Rattle.timetable.specs.Readings.{reads_as}
-use Rattle.timetable.specs.Weeks.{is_week, week_value}
+use Rattle.timetable.specs.Weeks.{is_week}
 use Rattle.timetable.specs.Lessons.{is_class, is_room, is_period, is_amount, lesson_value, amount_value}
 use Rattle.capture.specs.Views.{change_of, count_of, message_of}
 use Rattle.capture.specs.declared.message.Message.{Message as View}

@@ -1,20 +1,19 @@
 -- Messages that are written as lines read back.
-use Rattle.std.proofs.Common.{◌≡◌, ℕ, suc, ◌+◌, ◌^◌, ◌<◌, ◌≤◌, Bool, true, false, cond, eqb, leb, List, [], ◌∷◌, ◌++◌, ℤ, pos, negsuc, Some, None, Ok, Err, decimal, Option, sym, refl, ap, ◌∙◌, append_assoc, arith}
+use Rattle.std.proofs.Common.{◌≡◌, ℕ, suc, ◌+◌, ◌≤◌, true, leb, List, [], ◌∷◌, ◌++◌, ℤ, pos, negsuc, Some, Ok, decimal, sym, refl, ap, ◌∙◌, append_assoc, arith}
 use lib.Signed.{mag}
 use Rattle.std.specs.List.{flat_map, AllByRecursion as All}
 use Rattle.std.specs.Fmt.{signed_decimal}
 use Rattle.std.proofs.lemmas.List.{append-nil}
-use Rattle.std.proofs.lemmas.Int.{ints}
 use Rattle.std.proofs.lemmas.Bool.{cond-true, le-leb, ne_eqb}
 use Rattle.std.proofs.lemmas.Bool.Decides.{nat_tests}
 use Rattle.timetable.specs.Weeks.{weeks_in, is_week}
 use Rattle.timetable.specs.Lessons.{is_lesson, is_amount}
-use Rattle.capture.specs.Messages.{Statement, changes, statement}
+use Rattle.capture.specs.Messages.{changes, statement}
 use Rattle.lines.specs.Numbers.{most, number_in}
 use Rattle.lines.specs.Cuts.{cut_at}
-use Rattle.lines.specs.Fields.{then, only, number_then, signed_in, time_in, time_then, lesson_then, amount_in, change_in, count_in}
+use Rattle.lines.specs.Fields.{then, number_then, signed_in, time_in, time_then, lesson_then, amount_in}
 use Rattle.lines.specs.Said.{Said, opens_changes, opens_statement, a_change, a_lower, an_upper, a_count, ends, line_says}
-use Rattle.lines.specs.Format.{LessonChange, LessonMessage, Draft, outside, in_changes, in_statement, no_statement, goes_on, completes, step, with_message, says_from, file_says}
+use Rattle.lines.specs.Format.{LessonChange, LessonMessage, Draft, outside, in_changes, in_statement, no_statement, goes_on, completes, step, with_message, says_from}
 use Rattle.writing.specs.Writing.{number_before, time_before, lesson_before, line_of, change_text, time_text, count_text, lines_of, FormedTime, FormedChange, FormedCount, Formed}
 use Rattle.lines.specs.declared.part.Part.{Part}
 use Rattle.lines.specs.declared.part.Part.TheVariants.{Lower, Upper, Counts}

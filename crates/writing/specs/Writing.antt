@@ -1,5 +1,5 @@
 -- Messages written as lines.
-use Rattle.std.specs.Prelude.{◌≡◌, ℕ, ◌≤◌, true, List, [], ◌∷◌, ◌++◌, map, ℤ, Ok, decimal}
+use Rattle.std.specs.Prelude.{◌≡◌, ℕ, ◌≤◌, true, List, [], ◌∷◌, ◌++◌, map, Ok, decimal}
 use Rattle.std.specs.List.{flat_map, AllByRecursion as All}
 use Rattle.std.specs.Fmt.{signed_decimal}
 use Rattle.timetable.specs.Weeks.{is_week}
@@ -12,7 +12,7 @@ use Rattle.capture.specs.Views.{message_of}
 use Rattle.capture.specs.declared.message.Message.{Message as View}
 use Rattle.capture.specs.declared.message.Message.TheVariants.{Updates, Progress}
 use Rattle.lines.specs.Values.{time_value}
-use Rattle.capture.specs.Messages.{Statement, changes, statement}
+use Rattle.capture.specs.Messages.{changes, statement}
 use Rattle.lines.specs.Numbers.{most}
 use Rattle.lines.specs.Format.{LessonChange, LessonMessage, file_says}
 

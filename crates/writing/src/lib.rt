@@ -1,4 +1,6 @@
 // Writing the line format: texts, lines and messages put into lent bytes, and the round trip.
+#![tactic(auto)]
+
 mod entries;
 mod lines_post;
 mod messages;

@@ -1,9 +1,9 @@
-use Rattle.std.proofs.Common.{◌≡◌, ◌+◌, ◌<◌, ◌≤◌, map, length, get_or, take, drop, set, pos, sym, refl, ap, ◌∙◌, arith, w64, SFits, to_z, of_z, rules}
+use Rattle.std.proofs.Common.{◌≡◌, ◌+◌, ◌<◌, ◌≤◌, length, get_or, set, pos, sym, refl, ap, ◌∙◌, arith, w64, SFits, to_z, of_z}
 use Rattle.std.proofs.lemmas.List.{drop-set-lt, get_or_default}
 use Rattle.std.proofs.lemmas.Int.{to_z-of_z}
 use Rattle.std.proofs.lemmas.Bool.{le-leb, lt-leb}
-use Rattle.frontier.specs.Counts.{added, other}
-use Rattle.frontier.specs.Tables.{in_use, Holds, counted}
+use Rattle.frontier.specs.Counts.{other}
+use Rattle.frontier.specs.Tables.{in_use, counted}
 use Rattle.frontier.proofs.Tables.{drop_on, table_short, table_fits, table_full}
 use Rattle.frontier.proofs.Adding.{placed, update_hit, update_none, length_more, update_more}
 use Rattle.frontier.proofs.counts.update.Goals as goal

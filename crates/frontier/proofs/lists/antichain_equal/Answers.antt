@@ -1,4 +1,4 @@
-use Rattle.std.proofs.Common.{◌≡◌, sym, ◌∙◌}
+use Rattle.std.proofs.Common.{sym, ◌∙◌}
 use Rattle.lattice.proofs.Tests.{and_then, and_else}
 use Rattle.frontier.proofs.Antichains.{equal_by_order}
 use Rattle.frontier.proofs.lists.antichain_equal.Goals as goal

@@ -1,4 +1,4 @@
-use Rattle.std.proofs.Common.{map, sym, refl, ◌∙◌}
+use Rattle.std.proofs.Common.{sym, refl, ◌∙◌}
 use Rattle.frontier.specs.Frontiers.{beyond}
 use Rattle.frontier.proofs.Walks.{any_here, any_past, walked}
 use Rattle.frontier.proofs.lists.is_beyond.Goals as goal

@@ -1,4 +1,4 @@
-use Rattle.std.proofs.Common.{map, sym, refl, ◌∙◌}
+use Rattle.std.proofs.Common.{sym, refl, ◌∙◌}
 use Rattle.lattice.specs.Orders.{at_once}
 use Rattle.frontier.specs.Frontiers.{holds}
 use Rattle.frontier.proofs.Walks.{any_here, any_past, walked}

@@ -1,4 +1,4 @@
-use Rattle.std.proofs.Common.{◌≡◌, ℕ, true, List, [], ◌++◌, map, sym, ap, ◌∙◌}
+use Rattle.std.proofs.Common.{◌≡◌, ℕ, List, [], ◌++◌, map, sym, ap, ◌∙◌}
 use Rattle.questions.proofs.Asking.{asked_all}
 use Rattle.frontier.specs.Frontiers.{leq, fits, pairwise, join, meet}
 use Rattle.frontier.specs.Tables.{frontier_size}

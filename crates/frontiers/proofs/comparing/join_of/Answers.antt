@@ -1,4 +1,4 @@
-use Rattle.std.proofs.Common.{◌++◌, map}
+use Rattle.std.proofs.Common.{map}
 use Rattle.frontier.specs.Frontiers.{pairwise}
 use Rattle.frontier.proofs.Filling.{made_few}
 use Rattle.frontiers.specs.Times.{time_value, at_or_before, later}

@@ -1,7 +1,6 @@
 use Rattle.std.proofs.Common.{◌++◌, map}
-use Rattle.frontier.specs.Frontiers.{pairwise}
 use Rattle.frontier.proofs.Filling.{made_few}
-use Rattle.frontiers.specs.Times.{time_value, at_or_before, later}
+use Rattle.frontiers.specs.Times.{time_value, at_or_before}
 use Rattle.frontiers.proofs.comparing.meet_of.Goals as goal
 
 pub invariant_of-result : goal.invariant_of-result

@@ -3,7 +3,7 @@ use Rattle.std.proofs.lemmas.List.{take_all, take_more_set, map_push, drop-set-l
 use Rattle.frontier.specs.Frontiers.{beyond}
 use Rattle.frontier.specs.Tables.{in_use}
 use Rattle.frontier.proofs.Tables.{drop_on, length_in_use}
-use Rattle.capture.specs.Messages.{Change, those_behind}
+use Rattle.capture.specs.Messages.{those_behind}
 use Rattle.capture.specs.Views.{change_of}
 use Rattle.progress.proofs.Keeping.{kept_yes, kept_no}
 use Rattle.iterator.proofs.edges.copy_behind.Goals as goal

@@ -1,5 +1,4 @@
-use Rattle.std.proofs.Common.{◌≡◌, ◌≤◌, not, map, take, drop}
-use Rattle.frontier.specs.Frontiers.{beyond}
+use Rattle.std.proofs.Common.{◌≡◌, ◌≤◌, map, drop}
 use Rattle.frontier.specs.Tables.{in_use}
 use Rattle.capture.specs.Messages.{those_behind}
 use Rattle.capture.specs.Views.{change_of}

@@ -4,7 +4,7 @@ use Rattle.std.proofs.lemmas.List.{length-map, take_all}
 use Rattle.frontier.specs.Frontiers.{beyond, equal}
 use Rattle.frontier.specs.Tables.{in_use}
 use Rattle.frontier.proofs.Tables.{sub_zero, length_in_use}
-use Rattle.capture.specs.Messages.{Change, those_behind}
+use Rattle.capture.specs.Messages.{those_behind}
 use Rattle.capture.specs.Views.{change_of}
 use Rattle.iterator.proofs.edges.publish.Goals as goal
 

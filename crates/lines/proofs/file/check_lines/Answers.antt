@@ -1,4 +1,4 @@
-use Rattle.std.proofs.Common.{◌≡◌, [], ◌∷◌, ◌++◌, sym, ap, ◌∙◌, subst}
+use Rattle.std.proofs.Common.{[], ◌∷◌, ◌++◌, sym, ap, ◌∙◌, subst}
 use Rattle.lines.specs.Format.{outside, says_from}
 use Rattle.lines.specs.Ahead.{left, ahead}
 use Rattle.lines.specs.Blocks.{Got}

@@ -1,4 +1,4 @@
-use Rattle.std.proofs.Common.{◌≡◌, ◌+◌, Err, sym, refl, ap, ◌∙◌, subst, arith}
+use Rattle.std.proofs.Common.{◌+◌, Err, sym, ap, ◌∙◌, subst, arith}
 use Rattle.capture.specs.Messages.{statement}
 use Rattle.lines.specs.Said.{line_value}
 use Rattle.lines.specs.Format.{in_statement, no_statement}

@@ -1,4 +1,4 @@
-use Rattle.std.proofs.Common.{◌≡◌, ◌+◌, ◌&&◌, [], Some, Err, sym, refl, ap, ◌∙◌, arith, rules}
+use Rattle.std.proofs.Common.{◌≡◌, ◌+◌, ◌&&◌, Some, Err, sym, refl, ap, ◌∙◌, arith}
 use Rattle.capture.specs.Messages.{changes}
 use Rattle.lines.specs.Said.{ends, line_value}
 use Rattle.lines.specs.Format.{in_changes}

@@ -1,4 +1,4 @@
-use Rattle.std.proofs.Common.{◌≡◌, ◌<◌, ltb, [], ◌∷◌, ◌++◌, map, length, take, ap, ◌∙◌, arith, rules}
+use Rattle.std.proofs.Common.{◌<◌, ltb, [], ◌∷◌, ◌++◌, map, length, take, ap, ◌∙◌, arith, rules}
 use Rattle.std.proofs.lemmas.List.{take_more_set, map_push}
 use Rattle.std.proofs.lemmas.Bool.{lt-ltb}
 use Rattle.questions.proofs.Asking.{ask_next}

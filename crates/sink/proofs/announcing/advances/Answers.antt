@@ -1,4 +1,4 @@
-use Rattle.std.proofs.Common.{◌≡◌, Bool, true, false, not, ◌&&◌, map, sym, refl, ap, ◌∙◌}
+use Rattle.std.proofs.Common.{not, ◌&&◌, map, sym, ap, ◌∙◌}
 use Rattle.frontier.specs.Frontiers.{leq}
 use Rattle.sink.proofs.Closing.{some_no, some_yes}
 use Rattle.sink.proofs.announcing.advances.Goals as goal

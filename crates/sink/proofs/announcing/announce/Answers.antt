@@ -1,9 +1,9 @@
-use Rattle.std.proofs.Common.{◌≡◌, ◌+◌, ◌<◌, ◌≤◌, leb, [], ◌∷◌, ◌++◌, map, length, drop, Some, sym, ap, ◌∙◌, arith, w64, SFits, rules}
+use Rattle.std.proofs.Common.{◌<◌, ◌≤◌, leb, [], map, length, Some, sym, ap, ◌∙◌, arith, w64, SFits, rules}
 use Rattle.std.proofs.lemmas.Result.{err_from_is_err_and}
 use Rattle.std.proofs.lemmas.Int.{to_z-of_z}
 use Rattle.questions.specs.Questions.{number_of}
 use Rattle.questions.proofs.Asking.{ask_next, ask_here, asked_all}
-use Rattle.frontier.specs.Tables.{in_use, counted}
+use Rattle.frontier.specs.Tables.{counted}
 use Rattle.frontier.proofs.Tables.{length_in_use}
 use Rattle.frontier.proofs.Walks.{next, walked}
 use Rattle.capture.specs.Sizes.{largest_count}

@@ -1,4 +1,4 @@
-use Rattle.std.proofs.Common.{◌≡◌, ◌+◌, cond, map, drop, sym, refl, ap, ◌∙◌, w64, SFits, rules}
+use Rattle.std.proofs.Common.{sym, ◌∙◌, w64, SFits, rules}
 use Rattle.std.proofs.lemmas.Int.{to_z-of_z}
 use Rattle.std.proofs.lemmas.Bool.{cond-true, cond-false}
 use Rattle.frontier.specs.Tables.{counted}

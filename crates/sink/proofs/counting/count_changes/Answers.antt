@@ -1,4 +1,4 @@
-use Rattle.std.proofs.Common.{◌≡◌, ℕ, ◌+◌, ◌<◌, ◌≤◌, [], ◌∷◌, map, length, drop, pos, sym, ap, ◌∙◌, arith}
+use Rattle.std.proofs.Common.{◌≡◌, ℕ, ◌+◌, ◌<◌, ◌≤◌, ◌∷◌, map, length, drop, pos, arith}
 use Rattle.frontier.specs.Tables.{in_use, counted}
 use Rattle.frontier.proofs.Tables.{length_in_use}
 use Rattle.frontier.proofs.Walks.{next, walked}

@@ -1,4 +1,4 @@
-use Rattle.std.proofs.Common.{◌≡◌, ◌+◌, ◌-◌, ◌<◌, ◌≤◌, [], ◌∷◌, ◌++◌, map, length, take, sym, refl, ap, ◌∙◌, arith}
+use Rattle.std.proofs.Common.{[], ◌∷◌, ◌++◌, sym, refl, ap, ◌∙◌}
 use Rattle.capture.specs.Posts.{post}
 use Rattle.capture.specs.Stored.{stored_message}
 use Rattle.sink.proofs.Pumping.{taken_on, waits_here, all_taken}

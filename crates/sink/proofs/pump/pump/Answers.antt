@@ -1,4 +1,4 @@
-use Rattle.std.proofs.Common.{◌≡◌, ◌+◌, ◌-◌, ◌<◌, ◌≤◌, not, [], ◌∷◌, ◌++◌, map, length, take, sym, refl, ap, ◌∙◌, subst, arith}
+use Rattle.std.proofs.Common.{◌≡◌, ◌-◌, ◌≤◌, not, length, take, ap, ◌∙◌, subst, arith}
 use Rattle.capture.specs.Posts.{post}
 use Rattle.capture.specs.Stored.{stored_message}
 use Rattle.std.proofs.lemmas.List.{length-take-le}

@@ -1,5 +1,3 @@
-use Rattle.std.proofs.Common.{arith, rules}
-use Rattle.std.proofs.lemmas.List.{drop-set-lt}
 use Rattle.capture.specs.Messages.{short}
 use Rattle.capture.specs.Stored.{stored_message}
 use Rattle.capture.proofs.Queues.{stored_so, pushed}

@@ -1,4 +1,4 @@
-use Rattle.std.proofs.Common.{take, drop, ap, ◌∙◌, arith}
+use Rattle.std.proofs.Common.{take}
 use Rattle.std.proofs.lemmas.List.{length-take-le}
 use Rattle.frontier.proofs.Tables.{sub_zero}
 use Rattle.sink.proofs.Queues.{turned_front}

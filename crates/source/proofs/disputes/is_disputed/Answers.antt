@@ -1,4 +1,4 @@
-use Rattle.std.proofs.Common.{not, ◌&&◌, sym, refl, ◌∙◌}
+use Rattle.std.proofs.Common.{sym, refl, ◌∙◌}
 use Rattle.frontier.proofs.Walks.{any_here, any_past, walked}
 use Rattle.capture.specs.Kinds.{kinds}
 use Rattle.capture.specs.Prompt.{disputed}

@@ -1,8 +1,7 @@
 use borrow.Author.Rules.{scaled_Fits}
-use Rattle.std.proofs.Common.{◌≡◌, ◌<◌, true, false, ltb, length, sym, refl, ap, ◌∙◌, arith}
+use Rattle.std.proofs.Common.{◌<◌, ltb, length, sym, refl, ◌∙◌, arith}
 use Rattle.std.proofs.lemmas.Bool.{and_from, and_left, and_right, lt-ltb, le-ltb}
 use Rattle.capture.specs.Messages.{short}
-use Rattle.capture.specs.Views.{message_of}
 use Rattle.capture.specs.Stored.{stored_message}
 use Rattle.capture.proofs.Queues.{stored_so, pushed, entry_fits}
 use Rattle.table_post.proofs.TablePostWriter.poll.Goals as goal

@@ -1,4 +1,4 @@
-use Rattle.std.proofs.Common.{[], ◌∷◌, None}
+use Rattle.std.proofs.Common.{[], ◌∷◌}
 use Rattle.std.specs.List.{flat_map}
 use Rattle.writing.specs.Puts.{number_text}
 use Rattle.writing.proofs.Putting.{puts_stop, puts_then}

@@ -1,4 +1,4 @@
-use Rattle.std.proofs.Common.{ℕ, take, Some}
+use Rattle.std.proofs.Common.{take, Some}
 use Rattle.std.specs.List.{flat_map}
 use Rattle.writing.specs.Puts.{number_text, Puts}
 use Rattle.writing.proofs.texts.put_numbers.Given as goal

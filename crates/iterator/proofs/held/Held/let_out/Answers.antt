@@ -3,7 +3,6 @@ use Rattle.std.proofs.lemmas.List.Sums.{length-filter, count_by-le-length}
 use Rattle.frontier.specs.Frontiers.{beyond}
 use Rattle.frontier.specs.Tables.{in_use}
 use Rattle.frontier.proofs.Tables.{length_in_use}
-use Rattle.capture.specs.Messages.{Change}
 use Rattle.capture.specs.Views.{change_of}
 use Rattle.iterator.proofs.held.Held.let_out.Goals as goal
 

@@ -1,4 +1,4 @@
-use Rattle.std.proofs.Common.{sym, refl, ◌∙◌}
+use Rattle.std.proofs.Common.{refl}
 use Rattle.lines.specs.declared.statement.StatementRows.{StatementRows}
 use Rattle.lines.specs.declared.part.Part.TheVariants.{Counts}
 use Rattle.lines.proofs.Adding.{count_more}

@@ -1,4 +1,4 @@
-use Rattle.std.proofs.Common.{◌≡◌, map, ap}
+use Rattle.std.proofs.Common.{map, ap}
 use Rattle.capture.specs.Views.{count_of}
 use Rattle.lines.specs.Values.{time_value}
 use Rattle.lines.proofs.statement.StatementRows.view.Goals as goal

@@ -1,19 +1,17 @@
-use Rattle.std.proofs.Common.{◌≡◌, ◌+◌, ◌-◌, ◌<◌, ◌≤◌, true, false, not, ◌&&◌, leb, [], ◌∷◌, ◌++◌, map, length, take, Some, sym, refl, ap, ◌∙◌, ⊎_elim, arith}
+use Rattle.std.proofs.Common.{◌≡◌, ◌-◌, true, not, ◌&&◌, leb, [], map, length, take, Some, sym, ap, ◌∙◌, ⊎_elim, arith}
 use Rattle.std.proofs.lemmas.Result.{err_from_is_err_and}
-use Rattle.std.proofs.lemmas.Bool.{and_from, and_left, and_right, and_parts, leb-true, ltb-true, le-leb, lt-leb, lt-ltb, le-ltb}
+use Rattle.std.proofs.lemmas.Bool.{and_from, and_left, and_right, le-leb, lt-leb, lt-ltb, le-ltb}
 use Rattle.questions.specs.Questions.{number_of}
 use Rattle.questions.proofs.Asking.{asked_all}
-use Rattle.frontier.specs.Frontiers.{leq, fits}
-use Rattle.frontier.specs.Tables.{in_use, Holds, counted, frontier_size}
+use Rattle.frontier.specs.Frontiers.{leq}
+use Rattle.frontier.specs.Tables.{in_use, counted, frontier_size}
 use Rattle.frontier.proofs.Tables.{sub_zero, length_in_use, refused_full, accepted}
 use Rattle.capture.specs.Kinds.{kinds}
-use Rattle.capture.specs.Messages.{statement}
 use Rattle.capture.specs.Statements.{small}
-use Rattle.capture.specs.Views.{count_of}
 use Rattle.capture.specs.Stored.{stored_message}
-use Rattle.capture.specs.Sender.{some, announced, retained, reduced, stating}
-use Rattle.sink.specs.Senders.{sender_of, finished_of, close_tables, finish_tables}
-use Rattle.sink.proofs.Sizes.{sizes_yes, sizes_no, sizes_told}
+use Rattle.capture.specs.Sender.{some, announced, reduced, stating}
+use Rattle.sink.specs.Senders.{sender_of, close_tables}
+use Rattle.sink.proofs.Sizes.{sizes_yes, sizes_no}
 use Rattle.sink.proofs.Parting.{only_no}
 use Rattle.sink.proofs.Closing.{announced_reduced, moves_on, times_fit, close_1, close_4, close_5, close_12, close_13, close_yes}
 use Rattle.sink.proofs.sender.OpenSender.ask_close.Goals as goal

@@ -1,4 +1,4 @@
-use Rattle.std.proofs.Common.{◌≡◌, [], map, length, refl, ap, ◌∙◌, arith}
+use Rattle.std.proofs.Common.{[], map, length, refl, ap, ◌∙◌, arith}
 use Rattle.std.proofs.lemmas.Result.{err_from_is_err_and}
 use Rattle.frontier.specs.Tables.{counted}
 use Rattle.capture.specs.Kinds.{kinds}
