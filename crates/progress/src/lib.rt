@@ -13,7 +13,10 @@ mod statements;
 pub use changes::{lower_counts, take_fresh};
 pub use copies::{append_entries, copy_progress};
 pub use edges::{keep_beyond, lower_edge};
-pub use statements::{Lengths, advance, are_sized, is_sized};
+pub use statements::{
+    LARGEST_COUNT, Lengths, add_counts, advance, are_sized, is_counted_once, is_inside, is_sized,
+    is_small,
+};
 
 // The entries that a table for a reader's counts has at least, and the counts that it has at most.
 pub const COUNTS_SIZE: usize = 1024;

@@ -34,10 +34,10 @@ pub struct Lengths {
 }
 
 // A count that is announced is at most this.
-const LARGEST_COUNT: u32 = 1_000_000;
+pub const LARGEST_COUNT: u32 = 1_000_000;
 
 // Whether no count is over the largest, as question 5 asks.
-fn is_small<T: PartialOrder>(counts: &[(T, u32)]) -> bool
+pub fn is_small<T: PartialOrder>(counts: &[(T, u32)]) -> bool
     ensures { result ≡ small (map (count_of T.value) counts.now) }
 {
     for c in counts {
@@ -56,7 +56,7 @@ fn is_between<T: PartialOrder>(lower: &[T], upper: &[T], time: &T) -> bool
 }
 
 // Whether each counted time is beyond the lower list and behind the upper one, as question 6 asks.
-fn is_inside<T: PartialOrder>(lower: &[T], upper: &[T], counts: &[(T, u32)]) -> bool
+pub fn is_inside<T: PartialOrder>(lower: &[T], upper: &[T], counts: &[(T, u32)]) -> bool
     ensures { result ≡ inside T.below (map T.value lower.now) (map T.value upper.now) (map (count_of T.value) counts.now) }
 {
     for c in counts {
@@ -80,7 +80,7 @@ fn is_uncounted<T: PartialOrder>(counts: &[(T, u32)], time: &T) -> bool
 }
 
 // Whether no time is counted twice, as question 7 asks.
-fn is_counted_once<T: PartialOrder>(counts: &[(T, u32)]) -> bool
+pub fn is_counted_once<T: PartialOrder>(counts: &[(T, u32)]) -> bool
     ensures { result ≡ counted_once T.below (map (count_of T.value) counts.now) }
 {
     for (i, c) in counts.iter().enumerate() {
@@ -93,7 +93,7 @@ fn is_counted_once<T: PartialOrder>(counts: &[(T, u32)]) -> bool
 
 // Adds the counts that are not behind the progress frontier to the table's, of which the first
 // `len` are in use, and tells how many it has then.
-fn add_counts<T: PartialOrder + Copy>(
+pub fn add_counts<T: PartialOrder + Copy>(
     table: &mut [(T, i64)],
     len: usize,
     frontier: &[T],

@@ -1,5 +1,5 @@
 // Lesson amounts.
-ghost use Rattle.std.specs.Prelude.{◌≡◌, [], ◌∷◌, T};
+ghost use Rattle.std.specs.Prelude.{◌≡◌, T, [], ◌∷◌};
 ghost use Rattle.lattice.specs.Sameness.{eqb_signed};
 ghost use Rattle.questions.specs.Answers.{Answered};
 ghost use Rattle.timetable.specs.Lessons.{is_amount, amount_value};

@@ -1,5 +1,5 @@
 // Lessons, the data of the timetable.
-ghost use Rattle.std.specs.Prelude.{◌≡◌, [], ◌∷◌, T};
+ghost use Rattle.std.specs.Prelude.{◌≡◌, T, [], ◌∷◌};
 ghost use Rattle.questions.specs.Answers.{Answered};
 ghost use Rattle.timetable.specs.Lessons.{is_class, is_room, is_period, is_lesson, lesson_value, alike_lessons};
 ghost use Rattle.std.proofs.Common.{rules};

@@ -1,5 +1,5 @@
 // Weeks as a kind of time.
-ghost use Rattle.std.specs.Prelude.{◌≡◌, [], ◌∷◌, min, max, T, leb};
+ghost use Rattle.std.specs.Prelude.{◌≡◌, min, max, T, [], ◌∷◌, nat_le};
 ghost use Rattle.questions.specs.Answers.{Answered};
 ghost use Rattle.timetable.specs.Weeks.{weeks_in, is_week, week_value};
 ghost use Rattle.std.proofs.Common.{rules};
@@ -60,7 +60,7 @@ impl PartialOrder for Week {
 
     ghost value = { week_value };
 
-    ghost below = { leb };
+    ghost below = { nat_le };
 
     ghost order = { Prim.search rules };
 

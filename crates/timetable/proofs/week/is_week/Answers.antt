@@ -1,4 +1,4 @@
-use borrow.Author.Rules.{rules}
+use Rattle.std.proofs.Common.{rules}
 use Rattle.timetable.specs.Weeks.{is_week}
 use Rattle.timetable.proofs.week.is_week.Goals as goal
 

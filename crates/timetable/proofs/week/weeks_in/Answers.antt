@@ -1,4 +1,4 @@
-use mathlib.Core.Path.{refl}
+use Rattle.std.proofs.Common.{refl}
 use Rattle.timetable.specs.Weeks.{weeks_in}
 use Rattle.timetable.proofs.week.weeks_in.Goals as goal
 
