@@ -4,7 +4,7 @@ use Rattle.std.specs.List.{flat_map}
 use Rattle.capture.specs.Answers.{Answer, refused, accepted}
 use Rattle.capture.specs.Held.{feed, fresh_held}
 use Rattle.lines.specs.Format.{LessonChange, LessonMessage, file_says}
-use Rattle.writing.specs.Writing.{line_of, change_text, time_text}
+use Rattle.writing.specs.Writing.{line_of, time_text, lettered_text}
 use Rattle.writing.specs.Puts.{numbers_line}
 use Rattle.listing.specs.Lessons.{lesson_kinds, LessonReader}
 
@@ -14,7 +14,7 @@ Interval = List LessonChange × List (ℕ × ℕ)
 
 -- I with both lengths, P for each change, and F for each time of the frontier
 abbrev pub interval_text : Interval → List ℕ
-interval_text i = numbers_line 73 (length i.0 ∷ length i.1 ∷ []) ++ (flat_map (λ c. line_of (change_text 80 c)) i.0 ++ flat_map (λ t. line_of (time_text 70 t)) i.1)
+interval_text i = numbers_line 73 (length i.0 ∷ length i.1 ∷ []) ++ (flat_map (λ c. line_of (lettered_text 80 c)) i.0 ++ flat_map (λ t. line_of (time_text 70 t)) i.1)
 
 -- what is listed of feed's answer: N with the number of a refusal, nothing where the frontier stood still
 abbrev pub answer_text : Answer (Option Interval) → List ℕ

@@ -15,7 +15,7 @@ use Rattle.capture.specs.Messages.{changes, statement}
 use Rattle.capture.specs.Views.{change_of, count_of, statement_of}
 use Rattle.capture.specs.declared.message.Progress.{Progress as StatementView}
 use Rattle.lines.specs.Values.{time_value}
-use Rattle.writing.specs.Puts.{number_text, change_line, time_line, count_line, Puts}
+use Rattle.writing.specs.Puts.{number_text, change_line, time_line, count_line, Puts, lettered_line}
 use Rattle.writing.specs.Writing.{number_before, line_of, change_text, time_text, count_text, lines_of}
 
 pub puts_as : (r : Option ℕ) (b a : List ℕ) (at : ℕ) (s t : List ℕ) → s ≡ t → Puts r b a at s → Puts r b a at t
@@ -91,7 +91,7 @@ minus_text (negsuc n) m h e = ap (λ k. 45 ∷ decimal k) e
 pub change_pieces : (letter n₁ n₂ n₃ n₄ n₅ : ℕ) (s : List ℕ) → (letter ∷ flat_map number_text (n₁ ∷ n₂ ∷ n₃ ∷ n₄ ∷ n₅ ∷ [])) ++ (9 ∷ (s ++ 10 ∷ [])) ≡ line_of (letter ∷ number_before n₁ (number_before n₂ (number_before n₃ (number_before n₄ (number_before n₅ (9 ∷ s))))))
 change_pieces letter n₁ n₂ n₃ n₄ n₅ s = simp append_assoc
 
-pub change_written : (letter : ℕ) (change : Lesson × Product ℕ Week × Amount) (w c r p : ℕ) (z : ℤ) → w ≡ week_value change.1.inner → c ≡ (lesson_value change.0).0 → r ≡ (lesson_value change.0).1 → p ≡ (lesson_value change.0).2 → z ≡ amount_value change.2 → (letter ∷ flat_map number_text (change.1.outer ∷ w ∷ c ∷ r ∷ p ∷ [])) ++ (9 ∷ (signed_decimal z ++ 10 ∷ [])) ≡ change_line letter change
+pub change_written : (letter : ℕ) (change : Lesson × Product ℕ Week × Amount) (w c r p : ℕ) (z : ℤ) → w ≡ week_value change.1.inner → c ≡ (lesson_value change.0).0 → r ≡ (lesson_value change.0).1 → p ≡ (lesson_value change.0).2 → z ≡ amount_value change.2 → (letter ∷ flat_map number_text (change.1.outer ∷ w ∷ c ∷ r ∷ p ∷ [])) ++ (9 ∷ (signed_decimal z ++ 10 ∷ [])) ≡ lettered_line letter change
 change_written letter change w c r p z ew ec er ep ez =
     let n = change.1.outer in
     let F : ℕ → ℕ → ℕ → ℕ → ℤ → List ℕ = λ w c r p z. line_of (letter ∷ number_before n (number_before w (number_before c (number_before r (number_before p (9 ∷ signed_decimal z)))))) in
@@ -103,8 +103,8 @@ change_written letter change w c r p z ew ec er ep ez =
     ∙ ap (λ v. F (week_value change.1.inner) (lesson_value change.0).0 (lesson_value change.0).1 (lesson_value change.0).2 v) ez
 
 -- the lists of a message, by what they hold and by what that reads as
-pub changes_written : (cs : List (Lesson × Product ℕ Week × Amount)) → line_of (82 ∷ []) ++ (flat_map (change_line 85) cs ++ line_of (69 ∷ [])) ≡ lines_of (changes (map (change_of lesson_value time_value amount_value) cs))
-changes_written cs = ap (λ l. line_of (82 ∷ []) ++ (l ++ line_of (69 ∷ []))) (sym (joined_map (λ c. line_of (change_text 85 c)) (change_of lesson_value time_value amount_value) cs))
+pub changes_written : (cs : List (Lesson × Product ℕ Week × Amount)) → line_of (82 ∷ []) ++ (flat_map change_line cs ++ line_of (69 ∷ [])) ≡ lines_of (changes (map (change_of lesson_value time_value amount_value) cs))
+changes_written cs = ap (λ l. line_of (82 ∷ []) ++ (l ++ line_of (69 ∷ []))) (sym (joined_map (λ c. line_of (change_text c)) (change_of lesson_value time_value amount_value) cs))
 
 pub statement_written : (s : StatementView (Product ℕ Week)) → line_of (83 ∷ []) ++ (flat_map (time_line 76) s.lower.now ++ (flat_map (time_line 72) s.upper.now ++ (flat_map count_line s.counts.now ++ line_of (69 ∷ [])))) ≡ lines_of (statement (statement_of time_value s))
 statement_written s =

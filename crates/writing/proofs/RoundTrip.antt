@@ -56,7 +56,7 @@ amount_back : (z : ℤ) → is_amount z ≡ true → amount_in (signed_decimal z
 amount_back z f = then_some (signed_in (signed_decimal z)) z _ (signed_back z (omega (arith, amount_small z f))) ∙ cond-true (is_amount z) _ _ f
 
 -- what each kind of line says when it is written
-pub change_says : (c : LessonChange) → FormedChange c → line_says (change_text 85 c) ≡ Some (a_change c)
+pub change_says : (c : LessonChange) → FormedChange c → line_says (change_text c) ≡ Some (a_change c)
 change_says c f =
     ap (λ o. then o (λ x. Some (a_change x)))
     (then_some (time_then (decimal c.time.0 ++ number_before c.time.1 (lesson_before c.what (9 ∷ signed_decimal c.amount)))) (c.time, decimal c.what.0 ++ number_before c.what.1 (number_before c.what.2 (9 ∷ signed_decimal c.amount))) _ (time_then_back c.time (decimal c.what.0 ++ number_before c.what.1 (number_before c.what.2 (9 ∷ signed_decimal c.amount))) f.0)
@@ -87,7 +87,7 @@ free_signed : (z : ℤ) → mag z ≤ 1000 → Free 10 (signed_decimal z)
 free_signed (pos n) h = free_decimal 10 n (omega arith) (omega arith)
 free_signed (negsuc n) h = (ne_eqb 45 10 (λ e. omega arith), free_decimal 10 (suc n) (omega arith) (omega arith))
 
-free_change : (c : LessonChange) → FormedChange c → Free 10 (change_text 85 c)
+free_change : (c : LessonChange) → FormedChange c → Free 10 (change_text c)
 free_change c f =
     let small = lesson_small c.what f.1 in
     let amount : Free 10 (9 ∷ signed_decimal c.amount) = (ne_eqb 9 10 (λ e. omega arith), free_signed c.amount (amount_small c.amount f.2)) in
@@ -134,9 +134,9 @@ end_back d m n rest e = line_completes d n (line_of (69 ∷ []) ++ rest) (69 ∷
 pub message_back : (m : LessonMessage) (rest : List ℕ) (n : ℕ) → Formed m → (k : ℕ) × (says_from outside n (lines_of m ++ rest) ≡ with_message m (says_from outside k rest))
 message_back (changes cs) rest n f =
     let E = line_of (69 ∷ []) in
-    let J = flat_map (λ c. line_of (change_text 85 c)) cs in
+    let J = flat_map (λ c. line_of (change_text c)) cs in
     let opened = line_goes_on outside n (line_of (82 ∷ []) ++ (J ++ (E ++ rest))) (82 ∷ []) (J ++ (E ++ rest)) (found_line (82 ∷ []) (J ++ (E ++ rest)) (free_one 82 (λ e. omega arith))) opens_changes refl (in_changes []) refl in
-    let all = lines_on FormedChange (change_text 85) a_change in_changes free_change change_says (λ done x. refl) [] cs (E ++ rest) (n + 1) f in
+    let all = lines_on FormedChange change_text a_change in_changes free_change change_says (λ done x. refl) [] cs (E ++ rest) (n + 1) f in
     (all.0 + 1, ap (says_from outside n) (append_assoc (line_of (82 ∷ [])) (J ++ E) rest ∙ ap (λ l. line_of (82 ∷ []) ++ l) (append_assoc J E rest)) ∙ opened ∙ all.1 ∙ end_back (in_changes cs) (changes cs) all.0 rest refl)
 message_back (statement s) rest n f =
     let E = line_of (69 ∷ []) in

@@ -9,7 +9,7 @@ use Rattle.timetable.specs.Lessons.{lesson_value, amount_value}
 use Rattle.capture.specs.Views.{change_of, count_of}
 use Rattle.lines.specs.Format.{LessonChange}
 use Rattle.lines.specs.Values.{time_value}
-use Rattle.writing.specs.Writing.{line_of, change_text, time_text, count_text}
+use Rattle.writing.specs.Writing.{line_of, change_text, lettered_text, time_text, count_text}
 
 -- a tab and a number
 abbrev pub number_text : ℕ → List ℕ
@@ -27,9 +27,13 @@ change_value c = change_of lesson_value time_value amount_value c
 abbrev pub count_value : Product ℕ Week × ℕ → (ℕ × ℕ) × ℕ
 count_value c = count_of time_value c
 
--- the line of a change, by its letter
-abbrev pub change_line : ℕ → Lesson × Product ℕ Week × Amount → List ℕ
-change_line letter c = line_of (change_text letter (change_value c))
+-- the line of a change
+abbrev pub change_line : Lesson × Product ℕ Week × Amount → List ℕ
+change_line c = line_of (change_text (change_of lesson_value time_value amount_value c))
+
+-- the line of a change, by another letter
+abbrev pub lettered_line : ℕ → Lesson × Product ℕ Week × Amount → List ℕ
+lettered_line letter c = line_of (lettered_text letter (change_value c))
 
 -- the line of a time, by its letter
 abbrev pub time_line : ℕ → Product ℕ Week → List ℕ
@@ -37,7 +41,7 @@ time_line letter t = line_of (time_text letter (time_value t))
 
 -- the line of a count
 abbrev pub count_line : Product ℕ Week × ℕ → List ℕ
-count_line c = line_of (count_text (count_value c))
+count_line c = line_of (count_text (count_of time_value c))
 
 -- the text stands behind the first `at` bytes and ends at the place that is told; where it does not fit, these bytes are as before, and what follows them is free
 abbrev pub Puts : Option ℕ → List ℕ → List ℕ → ℕ → List ℕ → Type 0

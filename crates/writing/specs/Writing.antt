@@ -32,9 +32,13 @@ lesson_before l rest = number_before l.0 (number_before l.1 (number_before l.2 r
 abbrev pub line_of : List ℕ → List ℕ
 line_of bs = bs ++ 10 ∷ []
 
--- U or another letter, and a change
-abbrev pub change_text : ℕ → LessonChange → List ℕ
-change_text letter c = letter ∷ time_before c.time (lesson_before c.what (9 ∷ signed_decimal c.amount))
+-- U, and a change
+abbrev pub change_text : LessonChange → List ℕ
+change_text c = 85 ∷ time_before c.time (lesson_before c.what (9 ∷ signed_decimal c.amount))
+
+-- another letter, and a change
+abbrev pub lettered_text : ℕ → LessonChange → List ℕ
+lettered_text letter c = letter ∷ time_before c.time (lesson_before c.what (9 ∷ signed_decimal c.amount))
 
 -- L or H, and a time
 abbrev pub time_text : ℕ → (ℕ × ℕ) → List ℕ
@@ -46,7 +50,7 @@ count_text c = 67 ∷ time_before c.0 (number_before c.1 [])
 
 -- a message as lines: R or S, its lists in their order, and E
 abbrev pub lines_of : LessonMessage → List ℕ
-lines_of (changes cs) = line_of (82 ∷ []) ++ (flat_map (λ c. line_of (change_text 85 c)) cs ++ line_of (69 ∷ []))
+lines_of (changes cs) = line_of (82 ∷ []) ++ (flat_map (λ c. line_of (change_text c)) cs ++ line_of (69 ∷ []))
 lines_of (statement s) =
     line_of (83 ∷ []) ++ (flat_map (λ t. line_of (time_text 76 t)) s.lower ++ (flat_map (λ t. line_of (time_text 72 t)) s.upper ++ (flat_map (λ c. line_of (count_text c)) s.counts ++ line_of (69 ∷ []))))
 

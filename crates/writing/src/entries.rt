@@ -2,7 +2,7 @@
 ghost use Rattle.std.specs.Prelude.{◌≡◌, ◌≤◌, map, length, OnSome};
 ghost use Rattle.std.specs.List.{flat_map, AllByRecursion as All};
 ghost use Rattle.lines.specs.Values.{time_value};
-ghost use Rattle.writing.specs.Puts.{change_value, count_value, change_line, time_line, count_line, Puts};
+ghost use Rattle.writing.specs.Puts.{change_value, count_value, time_line, count_line, Puts, lettered_line};
 ghost use Rattle.writing.specs.Writing.{FormedTime, FormedChange, FormedCount};
 
 use crate::texts::{put_amount, put_head, put_line};
@@ -15,7 +15,7 @@ fn put_change(
     letter: u8,
     change: (Lesson, Time, Amount),
 ) -> Option<usize>
-    ensures text { Puts result out.old out.new at (change_line letter change) }
+    ensures text { Puts result out.old out.new at (lettered_line letter change) }
     ensures form { FormedChange (change_value change) }
 {
     let (lesson, time, amount) = change;
@@ -55,7 +55,7 @@ pub fn put_changes(
     letter: u8,
     changes: &[(Lesson, Time, Amount)],
 ) -> Option<usize>
-    ensures text { Puts result out.old out.new at (flat_map (change_line letter) changes.now) }
+    ensures text { Puts result out.old out.new at (flat_map (lettered_line letter) changes.now) }
     ensures form { OnSome result (All FormedChange (map change_value changes.now)) }
 {
     if at > out.len() {

@@ -14,7 +14,7 @@ use lines::Time;
 use timetable::{Amount, Lesson};
 
 fn put_updates(out: &mut [u8], at: usize, changes: &[(Lesson, Time, Amount)]) -> Option<usize>
-    ensures text { Puts result out.old out.new at (line_of (82 ∷ []) ++ (flat_map (change_line 85) changes.now ++ line_of (69 ∷ []))) }
+    ensures text { Puts result out.old out.new at (line_of (82 ∷ []) ++ (flat_map change_line changes.now ++ line_of (69 ∷ []))) }
     ensures form { OnSome result (All FormedChange (map change_value changes.now)) }
 {
     let first = put_line(out, at, b'R', &[])?;
