@@ -14,24 +14,26 @@ mod report;
 mod tests;
 mod text;
 
-use anyhow::anyhow;
 use lattice::Product;
 use report::report;
 use std::io::Read;
+use std::process::ExitCode;
 use timetable::Week;
 
 // A planning round and a week of it.
 pub type Time = Product<u64, Week>;
 
-fn main(rt: HostRuntime) -> anyhow::Result<()> {
+fn main(rt: HostRuntime) -> anyhow::Result<ExitCode> {
     let mut bytes = Vec::new(rt.alloc());
     rt.stdin().read_to_end(&mut bytes)?;
     match report(rt.alloc(), bytes.as_slice()) {
-        Ok(text) => rt.print(text)?,
+        Ok(text) => {
+            rt.print(text)?;
+            Ok(ExitCode::SUCCESS)
+        }
         Err(fault) => {
             eprintln!(rt; "{fault}")?;
-            return Err(anyhow!("the input was not taken"));
+            Ok(ExitCode::FAILURE)
         }
     }
-    Ok(())
 }
