@@ -13,10 +13,10 @@ abbrev pub side_of : ℕ → Option Side
 side_of b = cond (b == 76) (Some First) (cond (b == 72) (Some Second) None)
 
 -- a field of that one letter
-abbrev pub letter-of : List ℕ → Option Side
-letter-of [] = None
-letter-of (b ∷ []) = side_of b
-letter-of (b ∷ c ∷ bs) = None
+abbrev pub letter_of : List ℕ → Option Side
+letter_of [] = None
+letter_of (b ∷ []) = side_of b
+letter_of (b ∷ c ∷ bs) = None
 
 -- behind the round: a week, and no more
 abbrev pub behind_round : Side → ℕ → List ℕ → Result (Side × (ℕ × ℕ)) Expected
@@ -28,7 +28,7 @@ behind_letter s bs = elim (cut_at 9 bs) [ None ↦ Err Round | Some p ↦ elim (
 
 -- what one line says: its list and its time, or what was expected in it
 abbrev pub line_says : List ℕ → Result (Side × (ℕ × ℕ)) Expected
-line_says bs = elim (cut_at 9 bs) [ None ↦ Err Kind | Some p ↦ elim (letter-of p.0) [ None ↦ Err Kind | Some s ↦ behind_letter s p.1 ] ]
+line_says bs = elim (cut_at 9 bs) [ None ↦ Err Kind | Some p ↦ elim (letter_of p.0) [ None ↦ Err Kind | Some s ↦ behind_letter s p.1 ] ]
 
 -- what was read so far: the first list, the second, and the number of lines
 abbrev pub Told : Type 0

@@ -1,6 +1,6 @@
 // Reading the two lists.
 ghost use Rattle.std.specs.Prelude.{◌≡◌, Some, None, Ok, Err, MatchOption, MatchResult};
-ghost use Rattle.frontiers.specs.Input.{side_of, letter-of, line_says};
+ghost use Rattle.frontiers.specs.Input.{side_of, letter_of, line_says};
 ghost use Rattle.frontiers.specs.Times.{time_value};
 
 use crate::Time;
@@ -42,7 +42,7 @@ fn side_of(kind: char) -> Option<Side>
 }
 
 fn side_in(field: &[u8]) -> Option<Side>
-    ensures { result ≡ letter-of field.now }
+    ensures { result ≡ letter_of field.now }
 {
     match field {
         [letter] => side_of(*letter as char),

@@ -5,7 +5,7 @@ ghost use Rattle.frontier.specs.Frontiers.{beyond};
 ghost use Rattle.frontier.specs.Counts.{added_all, room};
 ghost use Rattle.frontier.specs.Tables.{in_use, Holds, table_asks, counted};
 ghost use Rattle.capture.specs.Kinds.{kinds};
-ghost use Rattle.capture.specs.Messages.{alike as alike-changes, has, fresh};
+ghost use Rattle.capture.specs.Messages.{alike as alike_changes, has, fresh};
 ghost use Rattle.capture.specs.Sizes.{reader_counts};
 ghost use Rattle.capture.specs.Statements.{lowered};
 ghost use Rattle.capture.specs.Views.{change_of};
@@ -17,7 +17,7 @@ use questions::Refusal;
 
 // Whether two changes are the same, in data, time and amount.
 fn is_alike<D: Same, T: Timestamp, R: Same>(one: &(D, T, R), other: &(D, T, R)) -> bool
-    ensures { result ≡ alike-changes (kinds D.Same.alike T.PartialOrder.below T.Lattice.joined T.Timestamp.start R.Same.alike) (change_of D.Same.value T.PartialOrder.value R.Same.value one.now) (change_of D.Same.value T.PartialOrder.value R.Same.value other.now) }
+    ensures { result ≡ alike_changes (kinds D.Same.alike T.PartialOrder.below T.Lattice.joined T.Timestamp.start R.Same.alike) (change_of D.Same.value T.PartialOrder.value R.Same.value one.now) (change_of D.Same.value T.PartialOrder.value R.Same.value other.now) }
 {
     one.0.same(&other.0) && same_time(&one.1, &other.1) && one.2.same(&other.2)
 }

@@ -1,6 +1,6 @@
 -- What stored values read as has its form.
 use Rattle.std.proofs.Common.{◌≡◌, ℕ, ◌≤◌, Bool, true, false, cond, ◌&&◌, List, [], ◌∷◌, map, negsuc, refl}
-use Rattle.std.specs.List.{AllByRecursion as All}
+use Rattle.std.specs.List.{AllByRecursion}
 use Rattle.std.proofs.lemmas.Bool.{and_from}
 use Rattle.lattice.specs.declared.product.Product.{Product}
 use Rattle.timetable.specs.declared.week.Week.{Week}
@@ -40,7 +40,7 @@ formed_change c h =
 pub formed_count : (c : Product ℕ Week × ℕ) → c.0.outer ≤ most → c.1 ≤ 4294967295 → FormedCount (count_of time_value c)
 formed_count c h k = (formed_time c.0 h, k)
 
-all_map : {X Y : Type 0} (f : X → Y) (P : X → Type 0) (Q : Y → Type 0) → ((x : X) → P x → Q (f x)) → (xs : List X) → All P xs → All Q (map f xs)
+all_map : {X Y : Type 0} (f : X → Y) (P : X → Type 0) (Q : Y → Type 0) → ((x : X) → P x → Q (f x)) → (xs : List X) → AllByRecursion P xs → AllByRecursion Q (map f xs)
 all_map f P Q g [] h = tt
 all_map f P Q g (x ∷ xs) h = (g x h.0, all_map f P Q g xs h.1)
 
@@ -49,5 +49,5 @@ formed_view (Updates cs) h = all_map (change_of lesson_value time_value amount_v
 formed_view (Progress s) h =
     (all_map time_value (λ t. t.outer ≤ most) FormedTime formed_time s.lower.now h.0, all_map time_value (λ t. t.outer ≤ most) FormedTime formed_time s.upper.now h.1, all_map (count_of time_value) (λ c. (c.0.outer ≤ most) × (c.1 ≤ 4294967295)) FormedCount (λ c k. formed_count c k.0 k.1) s.counts.now h.2)
 
-pub formed_views : (vs : List (View Lesson (Product ℕ Week) Amount)) → All FitsTypes vs → All Formed (map (message_of lesson_value time_value amount_value) vs)
+pub formed_views : (vs : List (View Lesson (Product ℕ Week) Amount)) → AllByRecursion FitsTypes vs → AllByRecursion Formed (map (message_of lesson_value time_value amount_value) vs)
 formed_views = all_map (message_of lesson_value time_value amount_value) FitsTypes Formed formed_view

@@ -1,7 +1,7 @@
 -- Messages that are written as lines read back.
 use Rattle.std.proofs.Common.{◌≡◌, ℕ, suc, ◌+◌, ◌≤◌, true, leb, List, [], ◌∷◌, ◌++◌, ℤ, pos, negsuc, Some, Ok, decimal, sym, refl, ap, ◌∙◌, append_assoc, arith}
 use lib.Signed.{mag}
-use Rattle.std.specs.List.{flat_map, AllByRecursion as All}
+use Rattle.std.specs.List.{flat_map, AllByRecursion}
 use Rattle.std.specs.Fmt.{signed_decimal}
 use Rattle.std.proofs.lemmas.List.{append-nil}
 use Rattle.std.proofs.lemmas.Bool.{cond-true, le-leb, ne_eqb}
@@ -100,7 +100,7 @@ found_line : (text rest : List ℕ) → Free 10 text → cut_at 10 (line_of text
 found_line text rest f = ap (cut_at 10) (append_assoc text (10 ∷ []) rest) ∙ cut_free 10 text rest f
 
 -- a list of lines, each of which lets the message go on
-lines_on : {X : Type 0} (P : X → Type 0) (text : X → List ℕ) (said : X → Said) (at : List X → Draft) → ((x : X) → P x → Free 10 (text x)) → ((x : X) → P x → line_says (text x) ≡ Some (said x)) → ((done : List X) (x : X) → step (at done) (said x) ≡ goes_on (at (done ++ x ∷ []))) → (done xs : List X) (rest : List ℕ) (n : ℕ) → All P xs → (k : ℕ) × (says_from (at done) n (flat_map (λ x. line_of (text x)) xs ++ rest) ≡ says_from (at (done ++ xs)) k rest)
+lines_on : {X : Type 0} (P : X → Type 0) (text : X → List ℕ) (said : X → Said) (at : List X → Draft) → ((x : X) → P x → Free 10 (text x)) → ((x : X) → P x → line_says (text x) ≡ Some (said x)) → ((done : List X) (x : X) → step (at done) (said x) ≡ goes_on (at (done ++ x ∷ []))) → (done xs : List X) (rest : List ℕ) (n : ℕ) → AllByRecursion P xs → (k : ℕ) × (says_from (at done) n (flat_map (λ x. line_of (text x)) xs ++ rest) ≡ says_from (at (done ++ xs)) k rest)
 lines_on P text said at free says on done [] rest n f = (n, ap (λ l. says_from (at l) n rest) (sym (append-nil done)))
 lines_on P text said at free says on done (x ∷ xs) rest n f =
     let more = lines_on P text said at free says on (done ++ x ∷ []) xs rest (n + 1) f.1 in
@@ -152,6 +152,6 @@ message_back (statement s) rest n f =
     (counts.0 + 1, ap (says_from outside n) regrouped ∙ opened ∙ lowers.1 ∙ uppers.1 ∙ counts.1 ∙ end_back (in_statement (after_part p Counts s.counts) s) (statement s) counts.0 rest refl)
 
 -- a file of messages that are written reads back
-pub file_back : (ms : List LessonMessage) (n : ℕ) → All Formed ms → says_from outside n (flat_map lines_of ms) ≡ Ok ms
+pub file_back : (ms : List LessonMessage) (n : ℕ) → AllByRecursion Formed ms → says_from outside n (flat_map lines_of ms) ≡ Ok ms
 file_back [] n f = refl
 file_back (m ∷ ms) n f = let first = message_back m (flat_map lines_of ms) n f.0 in first.1 ∙ ap (with_message m) (file_back ms first.0 f.1)

@@ -1,6 +1,6 @@
 -- Messages written as lines.
 use Rattle.std.specs.Prelude.{◌≡◌, ℕ, ◌≤◌, true, List, [], ◌∷◌, ◌++◌, map, Ok, decimal}
-use Rattle.std.specs.List.{flat_map, AllByRecursion as All}
+use Rattle.std.specs.List.{flat_map, AllByRecursion}
 use Rattle.std.specs.Fmt.{signed_decimal}
 use Rattle.timetable.specs.Weeks.{is_week}
 use Rattle.lattice.specs.declared.product.Product.{Product}
@@ -68,18 +68,18 @@ FormedCount c = FormedTime c.0 × (c.1 ≤ 4294967295)
 
 -- every part of a message has its form
 abbrev pub Formed : LessonMessage → Type 0
-Formed (changes cs) = All FormedChange cs
-Formed (statement s) = All FormedTime s.lower × All FormedTime s.upper × All FormedCount s.counts
+Formed (changes cs) = AllByRecursion FormedChange cs
+Formed (statement s) = AllByRecursion FormedTime s.lower × AllByRecursion FormedTime s.upper × AllByRecursion FormedCount s.counts
 
 -- what is written reads as the messages that were written, in order
 abbrev pub ReadsBack : Type 0
-ReadsBack = (ms : List LessonMessage) → All Formed ms → file_says (flat_map lines_of ms) ≡ Ok ms
+ReadsBack = (ms : List LessonMessage) → AllByRecursion Formed ms → file_says (flat_map lines_of ms) ≡ Ok ms
 
 -- the rounds of a message of the code fit 64 bits, and its counts 32, as their types have it
 abbrev pub FitsTypes : View Lesson (Product ℕ Week) Amount → Type 0
-FitsTypes (Updates cs) = All (λ c. c.1.outer ≤ most) cs.now
-FitsTypes (Progress s) = All (λ t. t.outer ≤ most) s.lower.now × All (λ t. t.outer ≤ most) s.upper.now × All (λ c. (c.0.outer ≤ most) × (c.1 ≤ 4294967295)) s.counts.now
+FitsTypes (Updates cs) = AllByRecursion (λ c. c.1.outer ≤ most) cs.now
+FitsTypes (Progress s) = AllByRecursion (λ t. t.outer ≤ most) s.lower.now × AllByRecursion (λ t. t.outer ≤ most) s.upper.now × AllByRecursion (λ c. (c.0.outer ≤ most) × (c.1 ≤ 4294967295)) s.counts.now
 
 -- what is written of messages of the code reads as what they read as: every week, lesson and amount has its form
 abbrev pub ViewsReadBack : Type 0
-ViewsReadBack = (vs : List (View Lesson (Product ℕ Week) Amount)) → All FitsTypes vs → file_says (flat_map lines_of (map (message_of lesson_value time_value amount_value) vs)) ≡ Ok (map (message_of lesson_value time_value amount_value) vs)
+ViewsReadBack = (vs : List (View Lesson (Product ℕ Week) Amount)) → AllByRecursion FitsTypes vs → file_says (flat_map lines_of (map (message_of lesson_value time_value amount_value) vs)) ≡ Ok (map (message_of lesson_value time_value amount_value) vs)

@@ -1,6 +1,6 @@
 // Lines for the entries of messages: changes, times and counts.
 ghost use Rattle.std.specs.Prelude.{◌≡◌, ◌≤◌, map, length, OnSome};
-ghost use Rattle.std.specs.List.{flat_map, AllByRecursion as All};
+ghost use Rattle.std.specs.List.{flat_map, AllByRecursion};
 ghost use Rattle.lines.specs.Values.{time_value};
 ghost use Rattle.writing.specs.Puts.{change_value, count_value, time_line, count_line, Puts, lettered_line};
 ghost use Rattle.writing.specs.Writing.{FormedTime, FormedChange, FormedCount};
@@ -56,7 +56,7 @@ pub fn put_changes(
     changes: &[(Lesson, Time, Amount)],
 ) -> Option<usize>
     ensures text { Puts result out.old out.new at (flat_map (lettered_line letter) changes.now) }
-    ensures form { OnSome result (All FormedChange (map change_value changes.now)) }
+    ensures form { OnSome result (AllByRecursion FormedChange (map change_value changes.now)) }
 {
     if at > out.len() {
         return None;
@@ -71,7 +71,7 @@ pub fn put_changes(
 // A line for each time, by a letter.
 pub fn put_times(out: &mut [u8], at: usize, letter: u8, times: &[Time]) -> Option<usize>
     ensures text { Puts result out.old out.new at (flat_map (time_line letter) times.now) }
-    ensures form { OnSome result (All FormedTime (map time_value times.now)) }
+    ensures form { OnSome result (AllByRecursion FormedTime (map time_value times.now)) }
 {
     if at > out.len() {
         return None;
@@ -86,7 +86,7 @@ pub fn put_times(out: &mut [u8], at: usize, letter: u8, times: &[Time]) -> Optio
 pub(crate) fn put_counts(out: &mut [u8], at: usize, counts: &[(Time, u32)]) -> Option<usize>
     requires { at ≤ length out.old }
     ensures text { Puts result out.old out.new at (flat_map count_line counts.now) }
-    ensures form { OnSome result (All FormedCount (map count_value counts.now)) }
+    ensures form { OnSome result (AllByRecursion FormedCount (map count_value counts.now)) }
 {
     let mut end = at;
     for count in counts {

@@ -1,6 +1,6 @@
 // Messages written as lines.
 ghost use Rattle.std.specs.Prelude.{◌≡◌, [], ◌∷◌, ◌++◌, map, OnSome};
-ghost use Rattle.std.specs.List.{flat_map, AllByRecursion as All};
+ghost use Rattle.std.specs.List.{flat_map, AllByRecursion};
 ghost use Rattle.timetable.specs.Lessons.{lesson_value, amount_value};
 ghost use Rattle.capture.specs.Views.{message_of};
 ghost use Rattle.lines.specs.Values.{time_value};
@@ -15,7 +15,7 @@ use timetable::{Amount, Lesson};
 
 fn put_updates(out: &mut [u8], at: usize, changes: &[(Lesson, Time, Amount)]) -> Option<usize>
     ensures text { Puts result out.old out.new at (line_of (82 ∷ []) ++ (flat_map change_line changes.now ++ line_of (69 ∷ []))) }
-    ensures form { OnSome result (All FormedChange (map change_value changes.now)) }
+    ensures form { OnSome result (AllByRecursion FormedChange (map change_value changes.now)) }
 {
     let first = put_line(out, at, b'R', &[])?;
     let end = put_changes(out, first, b'U', changes)?;
@@ -30,7 +30,7 @@ fn put_progress(
     counts: &[(Time, u32)],
 ) -> Option<usize>
     ensures text { Puts result out.old out.new at (line_of (83 ∷ []) ++ (flat_map (time_line 76) lower.now ++ (flat_map (time_line 72) upper.now ++ (flat_map count_line counts.now ++ line_of (69 ∷ []))))) }
-    ensures form { OnSome result (All FormedTime (map time_value lower.now) × All FormedTime (map time_value upper.now) × All FormedCount (map count_value counts.now)) }
+    ensures form { OnSome result (AllByRecursion FormedTime (map time_value lower.now) × AllByRecursion FormedTime (map time_value upper.now) × AllByRecursion FormedCount (map count_value counts.now)) }
 {
     let first = put_line(out, at, b'S', &[])?;
     let second = put_times(out, first, b'L', lower)?;

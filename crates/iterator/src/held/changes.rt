@@ -1,7 +1,7 @@
 // Taking in changes.
 ghost use Rattle.std.specs.Prelude.{◌≡◌, ◌+◌, ◌≤◌, true, ◌++◌, map, length, take};
 ghost use Rattle.frontier.specs.Tables.{frontier_size};
-ghost use Rattle.capture.specs.Messages.{changes as changes-of};
+ghost use Rattle.capture.specs.Messages.{changes as changes_of};
 ghost use Rattle.capture.specs.Kinds.{kinds};
 ghost use Rattle.capture.specs.Sizes.{reader_changes, reader_counts};
 ghost use Rattle.capture.specs.Views.{change_of};
@@ -42,7 +42,7 @@ impl Held {
         edge: &mut [T],
     ) -> Result<Option<(usize, usize)>, Refusal>
         requires { (Sized self.old (tables frontier.now reported.old counts.old held.old waiting.now) published.old told.old) × ((reader_changes ≤ length new.old) × (reader_counts ≤ length sums.old) × (frontier_size ≤ length edge.old)) }
-        ensures { Fed T.PartialOrder.value (change_of D.Same.value T.PartialOrder.value R.Same.value) (kinds D.Same.alike T.PartialOrder.below T.Lattice.joined T.Timestamp.start R.Same.alike) true (changes-of (map (change_of D.Same.value T.PartialOrder.value R.Same.value) changes.now)) result
+        ensures { Fed T.PartialOrder.value (change_of D.Same.value T.PartialOrder.value R.Same.value) (kinds D.Same.alike T.PartialOrder.below T.Lattice.joined T.Timestamp.start R.Same.alike) true (changes_of (map (change_of D.Same.value T.PartialOrder.value R.Same.value) changes.now)) result
             self.old (tables frontier.now reported.old counts.old held.old waiting.now)
             self.new (tables frontier.now reported.new counts.new held.new waiting.now)
             published.old published.new told.old told.new }

@@ -1,7 +1,7 @@
 // Taking in a statement.
 ghost use Rattle.std.specs.Prelude.{◌≤◌, true, length};
 ghost use Rattle.frontier.specs.Tables.{frontier_size};
-ghost use Rattle.capture.specs.Messages.{statement as statement-message};
+ghost use Rattle.capture.specs.Messages.{statement as statement_message};
 ghost use Rattle.capture.specs.Kinds.{kinds};
 ghost use Rattle.capture.specs.Sizes.{reader_counts, reader_statements};
 ghost use Rattle.capture.specs.Views.{change_of, statement_of};
@@ -33,7 +33,7 @@ impl Held {
         edge: &mut [T],
     ) -> Result<Option<(usize, usize)>, Refusal>
         requires { (Sized self.old (tables frontier.old reported.old counts.old held.old waiting.old) published.old told.old) × ((frontier_size ≤ length times.old) × (reader_counts ≤ length sums.old) × (reader_statements ≤ length statements.old) × (frontier_size ≤ length edge.old)) }
-        ensures { Fed T.PartialOrder.value (change_of D.Same.value T.PartialOrder.value R.Same.value) (kinds D.Same.alike T.PartialOrder.below T.Lattice.joined T.Timestamp.start R.Same.alike) true (statement-message (statement_of T.PartialOrder.value statement.entry)) result
+        ensures { Fed T.PartialOrder.value (change_of D.Same.value T.PartialOrder.value R.Same.value) (kinds D.Same.alike T.PartialOrder.below T.Lattice.joined T.Timestamp.start R.Same.alike) true (statement_message (statement_of T.PartialOrder.value statement.entry)) result
             self.old (tables frontier.old reported.old counts.old held.old waiting.old)
             self.new (tables frontier.new reported.new counts.new held.new waiting.new)
             published.old published.new told.old told.new }

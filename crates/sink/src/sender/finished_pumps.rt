@@ -1,7 +1,7 @@
 // Pumping a finished sender's queues, all that it knows.
 ghost use Rattle.std.specs.Prelude.{◌≡◌, length, nat_le};
 ghost use Rattle.capture.specs.Sizes.{queue_messages};
-ghost use Rattle.capture.specs.Posts.{post as post-of, Pump};
+ghost use Rattle.capture.specs.Posts.{post as post_of, Pump};
 ghost use Rattle.capture.specs.Stored.{queued};
 ghost use Rattle.sink.specs.Pumps.{pump_answer, WhereRefused};
 
@@ -18,7 +18,7 @@ impl FinishedSender {
         queue: &mut [StoredMessage<D, T, R>],
         post: &mut W,
     ) -> Result<(bool, Option<u64>), Refusal>
-        ensures pump { Pump (post-of W.Writer.taken W.Writer.ready W.Writer.committed) (nat_le queue_messages (length queue.old)) (queued D.Same.value T.PartialOrder.value R.Same.value self.old.updates queue.old) post.old (pump_answer result) (queued D.Same.value T.PartialOrder.value R.Same.value self.new.updates queue.new) post.new }
+        ensures pump { Pump (post_of W.Writer.taken W.Writer.ready W.Writer.committed) (nat_le queue_messages (length queue.old)) (queued D.Same.value T.PartialOrder.value R.Same.value self.old.updates queue.old) post.old (pump_answer result) (queued D.Same.value T.PartialOrder.value R.Same.value self.new.updates queue.new) post.new }
         ensures others { self.new.progress ≡ self.old.progress }
         ensures refused { WhereRefused result ((self.new ≡ self.old) × (queue.new ≡ queue.old) × (post.new ≡ post.old)) }
     {
@@ -36,7 +36,7 @@ impl FinishedSender {
         queue: &mut [StoredMessage<D, T, R>],
         post: &mut W,
     ) -> Result<(bool, Option<u64>), Refusal>
-        ensures pump { Pump (post-of W.Writer.taken W.Writer.ready W.Writer.committed) (nat_le queue_messages (length queue.old)) (queued D.Same.value T.PartialOrder.value R.Same.value self.old.progress queue.old) post.old (pump_answer result) (queued D.Same.value T.PartialOrder.value R.Same.value self.new.progress queue.new) post.new }
+        ensures pump { Pump (post_of W.Writer.taken W.Writer.ready W.Writer.committed) (nat_le queue_messages (length queue.old)) (queued D.Same.value T.PartialOrder.value R.Same.value self.old.progress queue.old) post.old (pump_answer result) (queued D.Same.value T.PartialOrder.value R.Same.value self.new.progress queue.new) post.new }
         ensures others { self.new.updates ≡ self.old.updates }
         ensures refused { WhereRefused result ((self.new ≡ self.old) × (queue.new ≡ queue.old) × (post.new ≡ post.old)) }
     {

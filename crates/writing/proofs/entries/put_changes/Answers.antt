@@ -1,7 +1,7 @@
 use Rattle.std.proofs.Common.{ℕ, pos, subst}
 use Rattle.std.proofs.ByRecursion.{All-more, All-map}
 use Rattle.std.proofs.lemmas.List.{take_all}
-use Rattle.std.specs.List.{AllByRecursion as All}
+use Rattle.std.specs.List.{AllByRecursion}
 use Rattle.lattice.specs.declared.product.Product.{Product}
 use Rattle.timetable.specs.declared.week.Week.{Week}
 use Rattle.timetable.specs.declared.lesson.Lesson.{Lesson}
@@ -31,5 +31,5 @@ pub returns : goal.returns
 returns c =
     record {
       text = puts_all (lettered_line c.args.letter) c.args.changes.now c.loop-change.change-index c.args.out.now c.loop-change.out c.args.at c.loop-change.end c.loop-change-test.false c.loop-change.invariant.0;
-      form = All-map FormedChange change_value c.args.changes.now (subst (All (λ x. FormedChange (change_value x))) (take_all c.loop-change.change-index c.args.changes.now c.loop-change-test.false) c.loop-change.invariant.1);
+      form = All-map FormedChange change_value c.args.changes.now (subst (AllByRecursion (λ x. FormedChange (change_value x))) (take_all c.loop-change.change-index c.args.changes.now c.loop-change-test.false) c.loop-change.invariant.1);
     }

@@ -1,7 +1,7 @@
 use Rattle.std.proofs.Common.{ℕ, subst}
 use Rattle.std.proofs.ByRecursion.{All-more, All-map}
 use Rattle.std.proofs.lemmas.List.{take_all}
-use Rattle.std.specs.List.{AllByRecursion as All}
+use Rattle.std.specs.List.{AllByRecursion}
 use Rattle.lattice.specs.declared.product.Product.{Product}
 use Rattle.timetable.specs.declared.week.Week.{Week}
 use Rattle.writing.specs.Puts.{count_value, count_line}
@@ -26,5 +26,5 @@ pub returns : goal.returns
 returns c =
     record {
       text = puts_all count_line c.args.counts.now c.loop-count.count-index c.args.out.now c.loop-count.out c.args.at c.loop-count.end c.loop-count-test.false c.loop-count.invariant.0;
-      form = All-map FormedCount count_value c.args.counts.now (subst (All (λ x. FormedCount (count_value x))) (take_all c.loop-count.count-index c.args.counts.now c.loop-count-test.false) c.loop-count.invariant.1);
+      form = All-map FormedCount count_value c.args.counts.now (subst (AllByRecursion (λ x. FormedCount (count_value x))) (take_all c.loop-count.count-index c.args.counts.now c.loop-count-test.false) c.loop-count.invariant.1);
     }

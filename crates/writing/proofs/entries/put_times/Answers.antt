@@ -1,7 +1,7 @@
 use Rattle.std.proofs.Common.{ℕ, subst}
 use Rattle.std.proofs.ByRecursion.{All-more, All-map}
 use Rattle.std.proofs.lemmas.List.{take_all}
-use Rattle.std.specs.List.{AllByRecursion as All}
+use Rattle.std.specs.List.{AllByRecursion}
 use Rattle.lattice.specs.declared.product.Product.{Product}
 use Rattle.timetable.specs.declared.week.Week.{Week}
 use Rattle.lines.specs.Values.{time_value}
@@ -30,5 +30,5 @@ pub returns : goal.returns
 returns c =
     record {
       text = puts_all (time_line c.args.letter) c.args.times.now c.loop-time.time-index c.args.out.now c.loop-time.out c.args.at c.loop-time.end c.loop-time-test.false c.loop-time.invariant.0;
-      form = All-map FormedTime time_value c.args.times.now (subst (All (λ x. FormedTime (time_value x))) (take_all c.loop-time.time-index c.args.times.now c.loop-time-test.false) c.loop-time.invariant.1);
+      form = All-map FormedTime time_value c.args.times.now (subst (AllByRecursion (λ x. FormedTime (time_value x))) (take_all c.loop-time.time-index c.args.times.now c.loop-time-test.false) c.loop-time.invariant.1);
     }
