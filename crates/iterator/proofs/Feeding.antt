@@ -16,7 +16,7 @@ use Rattle.capture.specs.Statements.{lower_edge}
 use Rattle.capture.specs.Stored.{stored_statement}
 use Rattle.capture.specs.declared.stored.StoredProgress.{StoredProgress}
 use Rattle.iterator.specs.Intervals.{LetsOut}
-use Rattle.iterator.specs.Readers.{Tables, tables, Few, after, held_of, Fed}
+use Rattle.iterator.specs.Readers.{Tables, tables, Few, after, Tells, held_in, Fed}
 use Rattle.iterator.specs.declared.held.Held.{Held}
 use Rattle.iterator.proofs.Published.{moved_to, stood, moved}
 
@@ -40,9 +40,33 @@ fewer_behind {D = D} {A = A} {R = R} below edge reads n xs =
     let p : Change D A R → Bool = λ c. not (beyond below edge c.time) in
     omega (arith, length-filter p (in_use reads n xs), count_by-le-length p (in_use reads n xs), length-map (take n xs) reads, length-take n xs)
 
+-- an interval is let out of a reader in tables, by its lower edge
+module _ {X Y D A R : Type 0} (value : Y → A) (reads : X → Change D A R) (k : Kinds D A R) (hn : Held) (tn : Tables X Y) (E : List A) (edge : E ≡ lower_edge k.time (held_in value reads hn tn).progress) (R' : List Y) (U' P P' : List X) (Q Q' : List Y) where
+  abbrev left : Tables X Y
+  left = tables tn.frontier R' tn.counts U' tn.waiting
+
+  abbrev mid : Meant D A R
+  mid = held_in value reads hn tn
+
+  let_out : (r : Option (ℕ × ℕ)) → LetsOut k.time.below value reads r E hn.reported hn.held tn.reported R' tn.updates U' P P' Q Q' → (held_in value reads (after r hn) left ≡ (published k mid).1) × Tells value reads r (published k mid).0 P P' Q Q'
+  let_out None l =
+      let e = stood k mid E edge l.0 in
+      let Told : Option (List (Change D A R) × List A) → Type 0 = λ o. Tells value reads None o P P' Q Q' in
+      (ap (λ rs. held_in value reads hn (tables tn.frontier rs tn.counts U' tn.waiting)) l.1 ∙ ap (λ us. held_in value reads hn (tables tn.frontier tn.reported tn.counts us tn.waiting)) l.2 ∙ sym (ap (λ z. z.1) e), subst Told (sym (ap (λ z. z.0) e)) (l.3, l.4))
+  let_out (Some q) l =
+      let e = moved k mid E edge l.0 in
+      let Told : Option (List (Change D A R) × List A) → Type 0 = λ o. Tells value reads (Some q) o P P' Q Q' in
+      (ap (λ rs. record { progress = mid.progress; reported = rs; updates = in_use reads (hn.held - q.0) U'; drops = hn.drops }) l.1.0 ∙ ap (λ us. record { progress = mid.progress; reported = E; updates = us; drops = hn.drops }) l.2.0 ∙ sym (ap (λ z. z.1) e), subst Told (sym (ap (λ z. z.0) e)) (l.3, l.4))
+
+  -- what the reader and the answer tables come to is what the meaning says
+  pub told_accepted : (v : Meant D A R) → mid ≡ v → (r : Option (ℕ × ℕ)) (h' : Held) → h' ≡ after r hn → LetsOut k.time.below value reads r E hn.reported hn.held tn.reported R' tn.updates U' P P' Q Q' → (held_in value reads h' left ≡ (published k v).1) × Tells value reads r (published k v).0 P P' Q Q'
+  told_accepted v taken r h' e l =
+      let done = let_out r l in
+      (ap (λ x. held_in value reads x left) e ∙ done.0 ∙ ap (λ x. (published k x).1) taken, subst (λ o. Tells value reads r o P P' Q Q') (ap (λ x. (published k x).0) taken) done.1)
+
 module _ {X Y D A R : Type 0} (value : Y → A) (reads : X → Change D A R) (k : Kinds D A R) (sizes : Bool) (m : Message D A R) (h : Held) (t : Tables X Y) where
   abbrev before : Meant D A R
-  before = held_of value reads h t
+  before = held_in value reads h t
 
   pub fed_refused : (f : Refusal) (P : List X) (Q : List Y) → first_no (feed_asks k sizes m before) ≡ Some (number_of f) → Fed value reads k sizes m (Err f) h t h t P P Q Q
   fed_refused f P Q e =
@@ -50,27 +74,28 @@ module _ {X Y D A R : Type 0} (value : Y → A) (reads : X → Change D A R) (k 
       (sym (ap (λ z. z.0) is), sym (ap (λ z. z.1) is), (refl, refl), (omega arith, omega arith, refl, refl))
 
   -- the reader and its tables once the message is taken in, and the lower edge then
-  module _ (none : first_no (feed_asks k sizes m before) ≡ None) (hn : Held) (tn : Tables X Y) (taken : held_of value reads hn tn ≡ taken_in k m before) (few : Few hn) (E : List A) (edge : E ≡ lower_edge k.time (held_of value reads hn tn).progress) (short : length E ≤ frontier_size) (R' : List Y) (U' P P' : List X) (Q Q' : List Y) where
+  module _ (none : first_no (feed_asks k sizes m before) ≡ None) (hn : Held) (tn : Tables X Y) (taken : held_in value reads hn tn ≡ taken_in k m before) (few : Few hn) (E : List A) (edge : E ≡ lower_edge k.time (held_in value reads hn tn).progress) (short : length E ≤ frontier_size) (R' : List Y) (U' P P' : List X) (Q Q' : List Y) where
     abbrev leaves : Tables X Y
     leaves = tables tn.frontier R' tn.counts U' tn.waiting
 
-    fed_as : (v : Option (List (Change D A R) × List A) × Meant D A R) → published k (held_of value reads hn tn) ≡ v → feed k sizes m before ≡ (accepted v.0, v.1)
+    fed_as : (v : Option (List (Change D A R) × List A) × Meant D A R) → published k (held_in value reads hn tn) ≡ v → feed k sizes m before ≡ (accepted v.0, v.1)
     fed_as v e = answer_yes (feed_asks k sizes m before) before (published k (taken_in k m before)) none ∙ ap (λ z. (accepted z.0, z.1)) (sym (ap (published k) taken) ∙ e)
+
+    left_is : (r : Option (ℕ × ℕ)) → LetsOut k.time.below value reads r E hn.reported hn.held tn.reported R' tn.updates U' P P' Q Q' → held_in value reads (after r hn) leaves ≡ (feed k sizes m before).1
+    left_is r l = (let_out value reads k hn tn E edge R' U' P P' Q Q' r l).0 ∙ sym (ap (λ z. z.1) (fed_as (published k (held_in value reads hn tn)) refl))
 
     fed_out : (r : Option (ℕ × ℕ)) → LetsOut k.time.below value reads r E hn.reported hn.held tn.reported R' tn.updates U' P P' Q Q' → Fed value reads k sizes m (Ok r) h t (after r hn) leaves P P' Q Q'
     fed_out None l =
-        let is = fed_as (None, held_of value reads hn tn) (stood k (held_of value reads hn tn) E edge l.0) in
-        let same = ap (λ rs. held_of value reads hn (tables tn.frontier rs tn.counts U' tn.waiting)) l.1 ∙ ap (λ us. held_of value reads hn (tables tn.frontier tn.reported tn.counts us tn.waiting)) l.2 in
-        (sym (ap (λ z. z.0) is), same ∙ sym (ap (λ z. z.1) is), few, (omega arith, omega arith, l.3, l.4))
+        let is = fed_as (None, held_in value reads hn tn) (stood k (held_in value reads hn tn) E edge l.0) in
+        (sym (ap (λ z. z.0) is), left_is None l, few, (omega arith, omega arith, l.3, l.4))
     fed_out (Some q) l =
-        let mid = held_of value reads hn tn in
+        let mid = held_in value reads hn tn in
         let behind = those_behind k.time.below E mid.updates in
         let is = fed_as (Some (behind, E), moved_to k mid E) (moved k mid E edge l.0) in
         let out : ◌≡◌ {A = Answer (Option (List (Change D A R) × List A))} (accepted (Some (in_use reads q.0 P', in_use value q.1 Q'))) (accepted (Some (behind, E))) = ap (λ cs. accepted (Some (cs, in_use value q.1 Q'))) l.3.0.0 ∙ ap (λ f. accepted (Some (behind, f))) l.4.0.0 in
-        let left : held_of value reads (after (Some q) hn) leaves ≡ moved_to k mid E = ap (λ rs. record { progress = mid.progress; reported = rs; updates = in_use reads (hn.held - q.0) U'; drops = hn.drops }) l.1.0 ∙ ap (λ us. record { progress = mid.progress; reported = E; updates = us; drops = hn.drops }) l.2.0 in
         let times : q.1 ≤ frontier_size = omega (arith, l.1.1, short) in
         let gone : q.0 ≤ reader_changes = omega (arith, l.3.0.1, fewer_behind k.time.below E reads hn.held tn.updates, few.4) in
-        (out ∙ sym (ap (λ z. z.0) is), left ∙ sym (ap (λ z. z.1) is), (few.0, few.1, few.2, times, omega (arith, few.4)), (gone, times, l.3.1, l.4.1))
+        (out ∙ sym (ap (λ z. z.0) is), left_is (Some q) l, (few.0, few.1, few.2, times, omega (arith, few.4)), (gone, times, l.3.1, l.4.1))
 
     -- where every question is answered yes, and the interval is let out
     pub fed_accepted : (r : Option (ℕ × ℕ)) (h' : Held) → h' ≡ after r hn → LetsOut k.time.below value reads r E hn.reported hn.held tn.reported R' tn.updates U' P P' Q Q' → Fed value reads k sizes m (Ok r) h t h' leaves P P' Q Q'
@@ -87,7 +112,7 @@ short_refused k sizes m h e = ap (λ b. first_no (feed_asks k b m h)) e ∙ at_o
     at_once (statement s) = refl
 
 -- a reader whose tables are handed on as parts
-pub cut_held : {X Y D A R : Type 0} (value : Y → A) (reads : X → Change D A R) (h : Held) (t : Tables X Y) → ◌≡◌ {A = Meant D A R} (record { progress = record { frontier = map value (take (h.progress.frontier - 0) t.frontier); counts = map (counted value) (take (h.progress.counts - 0) t.counts); waiting = in_use (stored_statement value) h.progress.waiting t.waiting }; reported = map value (take (h.reported - 0) t.reported); updates = map reads (take (h.held - 0) t.updates); drops = h.drops }) (held_of value reads h t)
+pub cut_held : {X Y D A R : Type 0} (value : Y → A) (reads : X → Change D A R) (h : Held) (t : Tables X Y) → ◌≡◌ {A = Meant D A R} (record { progress = record { frontier = map value (take (h.progress.frontier - 0) t.frontier); counts = map (counted value) (take (h.progress.counts - 0) t.counts); waiting = in_use (stored_statement value) h.progress.waiting t.waiting }; reported = map value (take (h.reported - 0) t.reported); updates = map reads (take (h.held - 0) t.updates); drops = h.drops }) (held_in value reads h t)
 cut_held {X} {Y} {D} {A} {R} value reads h t =
     let made : ℕ → ℕ → ℕ → ℕ → Meant D A R = λ a b d e. record { progress = record { frontier = in_use value a t.frontier; counts = in_use (counted value) b t.counts; waiting = in_use (stored_statement value) h.progress.waiting t.waiting }; reported = in_use value d t.reported; updates = in_use reads e t.updates; drops = h.drops } in
     ap (λ a. made a (h.progress.counts - 0) (h.reported - 0) (h.held - 0)) (sub_zero h.progress.frontier)

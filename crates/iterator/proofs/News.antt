@@ -10,7 +10,7 @@ use Rattle.capture.specs.Held.{Held, news, lowered_by}
 use Rattle.capture.specs.Sizes.{reader_changes, reader_counts}
 use Rattle.capture.specs.Statements.{lowered, edge_fits}
 use Rattle.progress.proofs.News.{length_fresh}
-use Rattle.iterator.specs.Taking.{changes_asks}
+use Rattle.iterator.specs.Readers.{changes_asks}
 
 module _ {D A R : Type 0} (k : Kinds D A R) where
   module _ (cs : List (Change D A R)) (h : Held D A R) where

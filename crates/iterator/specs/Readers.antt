@@ -1,15 +1,17 @@
 -- A held reader, by what its numbers and tables read as, and what a call on it answers.
-use Rattle.std.specs.Prelude.{◌≡◌, ℕ, ◌-◌, ◌≤◌, Bool, ◌&&◌, List, length, drop, ℤ, Some, None, Ok, Err, Option, Result, nat_le}
+use Rattle.std.specs.Prelude.{◌≡◌, ℕ, ◌-◌, ◌≤◌, Bool, ◌&&◌, List, [], ◌∷◌, ◌++◌, length, drop, ℤ, Some, None, Ok, Err, Option, Result, nat_le}
 use Rattle.questions.specs.declared.Refusal.{Refusal}
 use Rattle.questions.specs.Questions.{number_of}
-use Rattle.frontier.specs.Tables.{in_use, frontier_size}
+use Rattle.frontier.specs.Counts.{room}
+use Rattle.frontier.specs.Tables.{in_use, Holds, frontier_size}
 use Rattle.capture.specs.Answers.{Answer, refused, accepted}
-use Rattle.capture.specs.Held.{Held as Meant, feed}
+use Rattle.capture.specs.Held.{Held as Meant, feed, news, lowered_by}
 use Rattle.capture.specs.Kinds.{Kinds}
-use Rattle.capture.specs.Messages.{Change, Message}
+use Rattle.capture.specs.Messages.{Change, Message, short_changes}
 use Rattle.capture.specs.Sizes.{reader_changes, reader_counts, reader_statements}
+use Rattle.capture.specs.Statements.{lowered, edge_fits}
 use Rattle.capture.specs.declared.stored.StoredProgress.{StoredProgress}
-use Rattle.progress.specs.Tables.{progress_of}
+use Rattle.progress.specs.Tables.{progress_of, ProgressSized}
 use Rattle.iterator.specs.declared.held.Held.{Held}
 
 -- a reader's own tables: progress frontier, reported frontier, counts, changes held, waiting statements
@@ -71,9 +73,20 @@ abbrev pub Untouched : {X Y : Type 0} → ℕ × ℕ → List X → List X → L
 Untouched n published published' told told' = (n.0 ≤ reader_changes) × (n.1 ≤ frontier_size) × (drop n.0 published' ≡ drop n.0 published) × (drop n.1 told' ≡ drop n.1 told)
 
 module _ {X Y D A R : Type 0} (value : Y → A) (reads : X → Change D A R) where
+  -- the reader that stands in the first entries of the tables
+  abbrev pub held_of : Held → List Y → List Y → List (Y × ℤ) → List X → List (StoredProgress Y) → Meant D A R
+  held_of h frontier reported counts updates waiting = record { progress = progress_of value h.progress frontier counts waiting; reported = in_use value h.reported reported; updates = in_use reads h.held updates; drops = h.drops }
+
+  -- the two numbers are the lengths of the interval's lists; the answer tables hold those lists first, and are untouched beyond, or altogether where there is none
+  abbrev pub Tells : Option (ℕ × ℕ) → Option (List (Change D A R) × List A) → List X → List X → List Y → List Y → Type 0
+  Tells None None published published' told told' = (published' ≡ published) × (told' ≡ told)
+  Tells None (Some i) published published' told told' = ⊥
+  Tells (Some q) None published published' told told' = ⊥
+  Tells (Some q) (Some i) published published' told told' = (Holds reads q.0 published' i.0 × (drop q.0 published' ≡ drop q.0 published)) × (Holds value q.1 told' i.1 × (drop q.1 told' ≡ drop q.1 told))
+
   -- the reader that stands in the first entries of its tables
-  abbrev pub held_of : Held → Tables X Y → Meant D A R
-  held_of h t = record { progress = progress_of value h.progress t.frontier t.counts t.waiting; reported = in_use value h.reported t.reported; updates = in_use reads h.held t.updates; drops = h.drops }
+  abbrev pub held_in : Held → Tables X Y → Meant D A R
+  held_in h t = held_of h t.frontier t.reported t.counts t.updates t.waiting
 
   -- what an answer says, by the answer tables' first entries: a refusal's number; or an interval, with its changes and its frontier, or none
   abbrev pub answer_of : Result (Option (ℕ × ℕ)) Refusal → List X → List Y → Answer (Option (List (Change D A R) × List A))
@@ -84,5 +97,18 @@ module _ {X Y D A R : Type 0} (value : Y → A) (reads : X → Change D A R) whe
   -- feed of a message, where the tables are at least their sizes or not: answer and reader afterwards are what the meaning says of the reader before; a refusal leaves every table as it was, and the answer tables are untouched beyond what is told
   abbrev pub Fed : Kinds D A R → Bool → Message D A R → Result (Option (ℕ × ℕ)) Refusal → Held → Tables X Y → Held → Tables X Y → List X → List X → List Y → List Y → Type 0
   Fed k sizes m r h t h' t' published published' told told' =
-      (answer_of r published' told' ≡ (feed k sizes m (held_of h t)).0) × (held_of h' t' ≡ (feed k sizes m (held_of h t)).1)
+      (answer_of r published' told' ≡ (feed k sizes m (held_in h t)).0) × (held_in h' t' ≡ (feed k sizes m (held_in h t)).1)
       × Leaves r h t h' t' × Untouched (entries_told r) published published' told told'
+
+-- each table is at least its size, and no more of it is in use; answer and scratch tables too
+abbrev pub HeldSized : {X Y : Type 0} → Held → List Y → List Y → List (Y × ℤ) → List X → List (StoredProgress Y) → List X → List Y → List X → List (Y × ℤ) → List Y → Type 0
+HeldSized h frontier reported counts updates waiting published told new sums edge =
+    ProgressSized h.progress frontier counts waiting
+    × (h.reported ≤ frontier_size) × (frontier_size ≤ length reported) × (h.held ≤ reader_changes) × (reader_changes ≤ length updates)
+    × (reader_changes ≤ length published) × (frontier_size ≤ length told) × (reader_changes ≤ length new) × (reader_counts ≤ length sums) × (frontier_size ≤ length edge)
+
+-- what feed asks of changes once the tables are at least their sizes
+abbrev pub changes_asks : {D A R : Type 0} → Kinds D A R → List (Change D A R) → Meant D A R → List (Bool × ℕ)
+changes_asks k cs h =
+    (short_changes cs, 2) ∷ (nat_le (length (h.updates ++ news k cs h)) reader_changes, 9) ∷
+    (room k.time.below reader_counts h.progress.counts (lowered (news k cs h)), 11) ∷ (edge_fits k.time (lowered_by k (news k cs h) h.progress), 12) ∷ []

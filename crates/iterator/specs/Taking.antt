@@ -1,14 +1,11 @@
 -- What a message would make of a reader, as it is found out in scratch tables.
-use Rattle.std.specs.Prelude.{◌≡◌, ℕ, ◌≤◌, Bool, List, [], ◌∷◌, ◌++◌, length, ℤ, Result, nat_le}
+use Rattle.std.specs.Prelude.{◌≡◌, ℕ, ◌≤◌, List, [], ◌∷◌, ◌++◌, length, ℤ, Result}
 use Rattle.questions.specs.declared.Refusal.{Refusal}
 use Rattle.questions.specs.Answers.{Answered}
-use Rattle.frontier.specs.Counts.{room}
 use Rattle.frontier.specs.Tables.{in_use, frontier_size}
-use Rattle.capture.specs.Held.{Held, news, lowered_by}
-use Rattle.capture.specs.Kinds.{Kinds, Time}
-use Rattle.capture.specs.Messages.{Change, Statement, short_changes}
-use Rattle.capture.specs.Sizes.{reader_changes, reader_counts}
-use Rattle.capture.specs.Statements.{Progress, lowered, advanced, statement_asks, lower_edge, edge_fits}
+use Rattle.capture.specs.Kinds.{Time}
+use Rattle.capture.specs.Messages.{Statement}
+use Rattle.capture.specs.Statements.{Progress, advanced, statement_asks, lower_edge, edge_fits}
 use Rattle.capture.specs.declared.stored.StoredProgress.{StoredProgress}
 use Rattle.progress.specs.Tables.{HoldsProgress}
 use Rattle.progress.specs.declared.statements.Lengths.{Lengths}
@@ -16,12 +13,6 @@ use Rattle.progress.specs.declared.statements.Lengths.{Lengths}
 -- the first n entries are in use, no more than the size, and read as xs
 abbrev pub Reads : {X A : Type 0} → (X → A) → ℕ → ℕ → List X → List A → Type 0
 Reads value n size table xs = (in_use value n table ≡ xs) × (length xs ≡ n) × (n ≤ size)
-
--- what feed asks of changes once the tables are at least their sizes
-abbrev pub changes_asks : {D A R : Type 0} → Kinds D A R → List (Change D A R) → Held D A R → List (Bool × ℕ)
-changes_asks k cs h =
-    (short_changes cs, 2) ∷ (nat_le (length (h.updates ++ news k cs h)) reader_changes, 9) ∷
-    (room k.time.below reader_counts h.progress.counts (lowered (news k cs h)), 11) ∷ (edge_fits k.time (lowered_by k (news k cs h) h.progress), 12) ∷ []
 
 module _ {Y A : Type 0} (t : Time A) (value : Y → A) where
   -- the statement s comes to the progress p: what feed asks of it; and the scratch tables hold the progress after it and, in a frontier of its own, the lower edge

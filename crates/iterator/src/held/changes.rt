@@ -1,11 +1,11 @@
 // Taking in changes.
 ghost use Rattle.std.specs.Prelude.{◌≡◌, ◌+◌, ◌≤◌, true, ◌++◌, map, length, take};
-ghost use Rattle.frontier.specs.Tables.{frontier_size};
+ghost use Rattle.questions.specs.Answers.{Answered};
+ghost use Rattle.capture.specs.Held.{taken_in, published as lets-out};
 ghost use Rattle.capture.specs.Messages.{changes as changes_of};
 ghost use Rattle.capture.specs.Kinds.{kinds};
-ghost use Rattle.capture.specs.Sizes.{reader_changes, reader_counts};
 ghost use Rattle.capture.specs.Views.{change_of};
-ghost use Rattle.iterator.specs.Readers.{tables, Sized, Fed};
+ghost use Rattle.iterator.specs.Readers.{tables, held_of, Tells, Fed, HeldSized, changes_asks};
 
 use super::Held;
 use crate::taking::weigh_changes;
@@ -41,8 +41,13 @@ impl Held {
         sums: &mut [(T, i64)],
         edge: &mut [T],
     ) -> Result<Option<(usize, usize)>, Refusal>
-        requires { (Sized self.old (tables frontier.now reported.old counts.old held.old waiting.now) published.old told.old) × ((reader_changes ≤ length new.old) × (reader_counts ≤ length sums.old) × (frontier_size ≤ length edge.old)) }
-        ensures { Fed T.PartialOrder.value (change_of D.Same.value T.PartialOrder.value R.Same.value) (kinds D.Same.alike T.PartialOrder.below T.Lattice.joined T.Timestamp.start R.Same.alike) true (changes_of (map (change_of D.Same.value T.PartialOrder.value R.Same.value) changes.now)) result
+        requires { HeldSized self.old frontier.now reported.old counts.old held.old waiting.now published.old told.old new.old sums.old edge.old }
+        ensures answered { Answered result
+            (changes_asks (kinds D.Same.alike T.PartialOrder.below T.Lattice.joined T.Timestamp.start R.Same.alike) (map (change_of D.Same.value T.PartialOrder.value R.Same.value) changes.now) (held_of T.PartialOrder.value (change_of D.Same.value T.PartialOrder.value R.Same.value) self.old frontier.now reported.old counts.old held.old waiting.now))
+            (λ o. (held_of T.PartialOrder.value (change_of D.Same.value T.PartialOrder.value R.Same.value) self.new frontier.now reported.new counts.new held.new waiting.now ≡ (lets-out (kinds D.Same.alike T.PartialOrder.below T.Lattice.joined T.Timestamp.start R.Same.alike) (taken_in (kinds D.Same.alike T.PartialOrder.below T.Lattice.joined T.Timestamp.start R.Same.alike) (changes_of (map (change_of D.Same.value T.PartialOrder.value R.Same.value) changes.now)) (held_of T.PartialOrder.value (change_of D.Same.value T.PartialOrder.value R.Same.value) self.old frontier.now reported.old counts.old held.old waiting.now))).1)
+            × Tells T.PartialOrder.value (change_of D.Same.value T.PartialOrder.value R.Same.value) o (lets-out (kinds D.Same.alike T.PartialOrder.below T.Lattice.joined T.Timestamp.start R.Same.alike) (taken_in (kinds D.Same.alike T.PartialOrder.below T.Lattice.joined T.Timestamp.start R.Same.alike) (changes_of (map (change_of D.Same.value T.PartialOrder.value R.Same.value) changes.now)) (held_of T.PartialOrder.value (change_of D.Same.value T.PartialOrder.value R.Same.value) self.old frontier.now reported.old counts.old held.old waiting.now))).0 published.old published.new told.old told.new)
+            ((self.new ≡ self.old) × (reported.new ≡ reported.old) × (counts.new ≡ counts.old) × (held.new ≡ held.old) × (published.new ≡ published.old) × (told.new ≡ told.old)) }
+        ensures fed { Fed T.PartialOrder.value (change_of D.Same.value T.PartialOrder.value R.Same.value) (kinds D.Same.alike T.PartialOrder.below T.Lattice.joined T.Timestamp.start R.Same.alike) true (changes_of (map (change_of D.Same.value T.PartialOrder.value R.Same.value) changes.now)) result
             self.old (tables frontier.now reported.old counts.old held.old waiting.now)
             self.new (tables frontier.now reported.new counts.new held.new waiting.now)
             published.old published.new told.old told.new }
