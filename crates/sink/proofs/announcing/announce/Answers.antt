@@ -7,7 +7,7 @@ use Rattle.frontier.specs.Tables.{counted}
 use Rattle.frontier.proofs.Tables.{length_in_use}
 use Rattle.frontier.proofs.Walks.{next, walked}
 use Rattle.capture.specs.Sizes.{largest_count}
-use Rattle.capture.specs.Sender.{told as as-told}
+use Rattle.capture.specs.Sender.{told as as_told}
 use Rattle.capture.specs.Views.{count_of}
 use Rattle.capture.proofs.Queues.{pushed}
 use Rattle.sink.proofs.Parting.{only_no, passes, writes, too_large, announced_all}
@@ -23,7 +23,7 @@ returns-in_err-count g c =
     let x = c.c-item.result in
     let fits : SFits w64 x.1 = search rules in
     let told = simp to_z-of_z at c.in_err-count.ensures in
-    let large = only_no (leb (as-told x.1) largest_count) 5 (number_of c.in_err-count.field-0.0) told.0 in
+    let large = only_no (leb (as_told x.1) largest_count) 5 (number_of c.in_err-count.field-0.0) told.0 in
     let turn = next (counted o.value) c.args.counts.now c.loop-c.c-index x c.loop-c-test.true c.c-item.is (λ ys. ys) in
     let stop = too_large o.below (map o.value c.args.upper.now) (counted o.value x) _ _ _ _ turn c.loop-c.invariant.1 (sym c.is_beyond.ensures ∙ c.if-not-is_beyond.true) large.0 in
     let p = err_from_is_err_and c.from_residual.result c.from_residual.ensures.1 in
@@ -40,7 +40,7 @@ loop-c-preserved g c =
       | then-not-is_beyond+in_ok-count w ↦
           let fits : SFits w64 x.1 = search rules in
           let told = simp to_z-of_z at w.in_ok-count.ensures in
-          let yes = asked_all (leb (as-told x.1) largest_count) 5 [] told.0 in
+          let yes = asked_all (leb (as_told x.1) largest_count) 5 [] told.0 in
           rw (w.table-is, w.n-is) (omega (arith, c.loop-c.invariant.0), writes o.below upper (counted o.value x) _ _ _ _ turn c.loop-c.invariant.1 (sym c.is_beyond.ensures ∙ w.if-not-is_beyond.true) _ (pushed (count_of o.value) c.loop-c.table c.loop-c.n _ _ inside (ap (λ k. (o.value x.0, k)) told.1)) yes.0)
       | else-not-is_beyond w ↦
           rw (w.table-is, w.n-is) (omega (arith, c.loop-c.invariant.0), passes o.below upper (counted o.value x) _ _ _ _ turn c.loop-c.invariant.1 (sym c.is_beyond.ensures ∙ w.if-not-is_beyond.false))
