@@ -10,11 +10,11 @@ use Rattle.capture.specs.Views.{change_of, count_of, statement_of}
 leb_map : {X Y : Type 0} (f : X → Y) (xs : List X) (n : ℕ) → leb (length (map f xs)) n ≡ leb (length xs) n
 leb_map f xs n = ap (λ m. leb m n) (length-map xs f)
 
-module _ {X D Y A Z R : Type 0} (data-value : X → D) (time_value : Y → A) (amount_value : Z → R) where
-  pub short_changes_of : (cs : List (X × Y × Z)) → leb (length cs) 64 ≡ short_changes (map (change_of data-value time_value amount_value) cs)
-  short_changes_of cs = sym (leb_map (change_of data-value time_value amount_value) cs 64)
+module _ {X D Y A Z R : Type 0} (data_value : X → D) (time_value : Y → A) (amount_value : Z → R) where
+  pub short_changes_of : (cs : List (X × Y × Z)) → leb (length cs) 64 ≡ short_changes (map (change_of data_value time_value amount_value) cs)
+  short_changes_of cs = sym (leb_map (change_of data_value time_value amount_value) cs 64)
 
-  pub few_changes : (cs : List (X × Y × Z)) → short_changes (map (change_of data-value time_value amount_value) cs) ≡ true → length cs ≤ 64
+  pub few_changes : (cs : List (X × Y × Z)) → short_changes (map (change_of data_value time_value amount_value) cs) ≡ true → length cs ≤ 64
   few_changes cs e = leb→le (length cs) 64 (≡true_T (leb (length cs) 64) (short_changes_of cs ∙ e))
 
 module _ {Y A : Type 0} (value : Y → A) (s : StatementView Y) where

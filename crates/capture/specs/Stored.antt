@@ -13,8 +13,8 @@ stored_statement value s = record { lower = map value (row s.lower); upper = map
 
 -- what a stored message reads as
 abbrev pub stored_message : {X D Y A Z R : Type 0} → (X → D) → (Y → A) → (Z → R) → StoredMessage X Y Z → Message D A R
-stored_message data-value time_value amount_value m = cond m.stated (statement (stored_statement time_value m.progress)) (changes (map (change_of data-value time_value amount_value) (row m.updates)))
+stored_message data_value time_value amount_value m = cond m.stated (statement (stored_statement time_value m.progress)) (changes (map (change_of data_value time_value amount_value) (row m.updates)))
 
 -- the messages that the first n entries of a table read as
 abbrev pub queued : {X D Y A Z R : Type 0} → (X → D) → (Y → A) → (Z → R) → ℕ → List (StoredMessage X Y Z) → List (Message D A R)
-queued data-value time_value amount_value n table = in_use (stored_message data-value time_value amount_value) n table
+queued data_value time_value amount_value n table = in_use (stored_message data_value time_value amount_value) n table

@@ -13,10 +13,10 @@ count_of value c = (value c.0, c.1)
 abbrev pub statement_of : {Y A : Type 0} → (Y → A) → StatementView Y → Statement A
 statement_of value s = record { lower = map value s.lower.now; upper = map value s.upper.now; counts = map (count_of value) s.counts.now }
 
-module _ {X D Y A Z R : Type 0} (data-value : X → D) (time_value : Y → A) (amount_value : Z → R) where
+module _ {X D Y A Z R : Type 0} (data_value : X → D) (time_value : Y → A) (amount_value : Z → R) where
   -- what a change reads as
   abbrev pub change_of : X × Y × Z → Change D A R
-  change_of c = record { what = data-value c.0; time = time_value c.1; amount = amount_value c.2 }
+  change_of c = record { what = data_value c.0; time = time_value c.1; amount = amount_value c.2 }
 
   -- what a message reads as
   abbrev pub message_of : View X Y Z → Message D A R

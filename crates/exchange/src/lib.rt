@@ -1,4 +1,5 @@
-// One sender, its posts and any number of readers as one value, which keeps the law.
+// One sender, its posts and any number of readers, by the books that they come to: what each call
+// makes of them, and the law that they keep.  The calls themselves are still to come.
 #![tactic(auto)]
 
 mod law;

@@ -141,13 +141,13 @@ pub record Room (s : OpenSender) (frontier counts queue upper announced n m : �
   pub place : s.progress < queue
   pub few_queued : s.progress + 1 ≤ 16
 
-module _ {X D Y A Z R : Type 0} (k : Kinds D A R) (data-value : X → D) (time_value : Y → A) (amount_value : Z → R)
+module _ {X D Y A Z R : Type 0} (k : Kinds D A R) (data_value : X → D) (time_value : Y → A) (amount_value : Z → R)
     (s : OpenSender) (frontier : List Y) (counts : List (Y × ℤ)) (queue : List (StoredMessage X Y Z)) where
   abbrev before : Sender D A R
-  before = sender_of data-value time_value amount_value s frontier counts [] queue
+  before = sender_of data_value time_value amount_value s frontier counts [] queue
 
   free_place : 16 ≤ length queue → ltb (length before.queued_statements) queue_messages ≡ true → s.progress + 1 ≤ 16
-  free_place h e = omega (arith, ltb-true (length before.queued_statements) 16 e, length_in_use (stored_message data-value time_value amount_value) s.progress queue (omega (arith, s.few_progress)))
+  free_place h e = omega (arith, ltb-true (length before.queued_statements) 16 e, length_in_use (stored_message data_value time_value amount_value) s.progress queue (omega (arith, s.few_progress)))
 
   few_announced : (f : List A) (m : ℕ) → 256 ≤ length counts → length (stating k f before).counts ≡ m → m ≤ 256
   few_announced f m h e = omega (arith, announced_few k.time.below f before.counts, length_in_use (counted time_value) s.counts counts (omega (arith, s.few_counts)), s.few_counts)

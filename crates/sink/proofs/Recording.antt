@@ -89,10 +89,10 @@ pub record Room (s : OpenSender) (counts queue scratch n : ℕ) : Type 0 where
   pub place : s.updates < queue
   pub few_queued : s.updates + 1 ≤ 16
 
-module _ {X D Y A Z R : Type 0} (k : Kinds D A R) (data-value : X → D) (time_value : Y → A) (amount_value : Z → R)
+module _ {X D Y A Z R : Type 0} (k : Kinds D A R) (data_value : X → D) (time_value : Y → A) (amount_value : Z → R)
     (s : OpenSender) (frontier : List Y) (counts : List (Y × ℤ)) (queue : List (StoredMessage X Y Z)) (scratch : ℕ) (cs : List (Change D A R)) where
   abbrev before : Sender D A R
-  before = sender_of data-value time_value amount_value s frontier counts queue []
+  before = sender_of data_value time_value amount_value s frontier counts queue []
 
   abbrev tables : Bool
   tables = record_tables (length frontier) (length counts) (length queue) scratch
@@ -103,7 +103,7 @@ module _ {X D Y A Z R : Type 0} (k : Kinds D A R) (data-value : X → D) (time_v
       let long = sizes_told (length frontier) (length counts) (length queue) (leb 1024 scratch) answers.0 in
       let start : length before.counts ≤ sender_counts = omega (arith, length_in_use (counted time_value) s.counts counts (omega (arith, long.1, s.few_counts)), s.few_counts) in
       let few : n ≤ 256 = omega (arith, made, fit_length (adding k.time.below sender_counts) before.counts (raised cs) start answers.1.1.1.1.0) in
-      let free : s.updates + 1 ≤ 16 = omega (arith, ltb-true (length before.queued_changes) 16 answers.1.1.1.1.1.0, length_in_use (stored_message data-value time_value amount_value) s.updates queue (omega (arith, long.2, s.few_updates))) in
+      let free : s.updates + 1 ≤ 16 = omega (arith, ltb-true (length before.queued_changes) 16 answers.1.1.1.1.1.0, length_in_use (stored_message data_value time_value amount_value) s.updates queue (omega (arith, long.2, s.few_updates))) in
       record {
         few_counts = few;
         counts_made = omega (arith, few, leb-true 1024 scratch long.3);

@@ -13,15 +13,15 @@ use Rattle.capture.specs.Stored.{queued}
 use Rattle.sink.specs.declared.sender.OpenSender.{OpenSender}
 use Rattle.sink.specs.declared.sender.FinishedSender.{FinishedSender}
 
-module _ {X D Y A Z R : Type 0} (data-value : X → D) (time_value : Y → A) (amount_value : Z → R) where
+module _ {X D Y A Z R : Type 0} (data_value : X → D) (time_value : Y → A) (amount_value : Z → R) where
   -- the sender that these tables hold: frontier, counts, queue of changes, queue of statements
   abbrev pub sender_of : OpenSender → List Y → List (Y × ℤ) → List (StoredMessage X Y Z) → List (StoredMessage X Y Z) → Sender D A R
   sender_of s frontier counts updates progress =
-      record { frontier = in_use time_value s.frontier frontier; counts = in_use (counted time_value) s.counts counts; queued_changes = queued data-value time_value amount_value s.updates updates; queued_statements = queued data-value time_value amount_value s.progress progress }
+      record { frontier = in_use time_value s.frontier frontier; counts = in_use (counted time_value) s.counts counts; queued_changes = queued data_value time_value amount_value s.updates updates; queued_statements = queued data_value time_value amount_value s.progress progress }
 
   -- the finished sender that these queues hold: its frontier is empty, and nothing is left to announce
   abbrev pub finished_of : FinishedSender → List (StoredMessage X Y Z) → List (StoredMessage X Y Z) → Sender D A R
-  finished_of s updates progress = record { frontier = []; counts = []; queued_changes = queued data-value time_value amount_value s.updates updates; queued_statements = queued data-value time_value amount_value s.progress progress }
+  finished_of s updates progress = record { frontier = []; counts = []; queued_changes = queued data_value time_value amount_value s.updates updates; queued_statements = queued data_value time_value amount_value s.progress progress }
 
 -- whether the tables of a new sender have their sizes, by how long they are: frontier, counts, queue of changes, queue of statements
 abbrev pub open_tables : ℕ → ℕ → ℕ → ℕ → Bool

@@ -1,5 +1,5 @@
 // Counting recorded changes, in a scratch table.
-ghost use Rattle.std.specs.Prelude.{◌≡◌, ◌≤◌, leb, map, length, nat_le};
+ghost use Rattle.std.specs.Prelude.{◌≡◌, ◌≤◌, map, length, nat_le};
 ghost use Rattle.std.specs.List.{list_all};
 ghost use Rattle.frontier.specs.Frontiers.{beyond};
 ghost use Rattle.frontier.specs.Counts.{added_all, room};
@@ -58,7 +58,7 @@ pub(crate) fn all_small<D: Same, T: PartialOrder, R: Same>(
     table: &[(T, i64)],
     changes: &[(D, T, R)],
 ) -> bool
-    ensures { result ≡ list_all (λ c. leb (told (count_at T.PartialOrder.below (map (counted T.PartialOrder.value) table.now) c.time)) largest_count) (map (change_of D.Same.value T.PartialOrder.value R.Same.value) changes.now) }
+    ensures { result ≡ list_all (λ c. nat_le (told (count_at T.PartialOrder.below (map (counted T.PartialOrder.value) table.now) c.time)) largest_count) (map (change_of D.Same.value T.PartialOrder.value R.Same.value) changes.now) }
 {
     for c in changes {
         let count = count_at(table, &c.1);
