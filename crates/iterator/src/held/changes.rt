@@ -1,5 +1,5 @@
 // Taking in changes.
-ghost use Rattle.std.specs.Prelude.{◌≡◌, ◌+◌, ◌≤◌, true, ◌++◌, map, length, take};
+ghost use Rattle.std.specs.Prelude.{◌≡◌, true, map};
 ghost use Rattle.questions.specs.Answers.{Answered};
 ghost use Rattle.capture.specs.Held.{taken_in, published as lets_out};
 ghost use Rattle.capture.specs.Messages.{changes as changes_of};
@@ -12,17 +12,8 @@ use crate::taking::weigh_changes;
 use capture::StoredProgress;
 use frontier::steps;
 use lattice::{PartialOrder, Same, Timestamp};
+use progress::append_entries;
 use questions::Refusal;
-
-// Copies the first `n` entries of one table behind the first `len` of another.
-fn append_entries<X: Copy>(from: &[X], n: usize, to: &mut [X], len: usize)
-    requires { (n ≤ length from.now) × (len + n ≤ length to.old) }
-    ensures { take (len + n) to.new ≡ take len to.old ++ take n from.now }
-{
-    let end = len + n;
-    let part = &mut to[len..end];
-    part.copy_from_slice(&from[0..n]);
-}
 
 impl Held {
     // Takes in a message of changes.  Whether every question is answered yes is found out in scratch
