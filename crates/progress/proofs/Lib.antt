@@ -3,3 +3,4 @@ pub mod Waiting
 pub mod Acting
 pub mod News
 pub mod Keeping
+pub mod Weights

@@ -9,6 +9,7 @@ mod changes;
 mod copies;
 mod edges;
 mod statements;
+mod weighing;
 
 pub use changes::{lower_counts, take_fresh};
 pub use copies::{append_entries, copy_progress};
@@ -17,6 +18,7 @@ pub use statements::{
     LARGEST_COUNT, Lengths, add_counts, advance, are_sized, is_counted_once, is_inside, is_sized,
     is_small,
 };
+pub use weighing::{Weighed, weigh_fresh};
 
 // The entries that a table for a reader's counts has at least, and the counts that it has at most.
 pub const COUNTS_SIZE: usize = 1024;
