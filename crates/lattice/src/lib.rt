@@ -15,6 +15,7 @@ mod signed;
 pub use product::Product;
 
 // Data and amounts: all that is asked of them is whether two are the same.
+// Not `PartialEq`: two stored values that read alike are the same (a rule of the project).
 pub trait Same: Sized {
     // what a stored value reads as
     type Value;
@@ -30,6 +31,7 @@ pub trait Same: Sized {
 }
 
 // Times, of which some are at or before others.
+// Not `PartialOrd`: times are ordered by what they read as (a rule of the project).
 pub trait PartialOrder: Sized {
     // what a stored time reads as
     type Value;
@@ -73,6 +75,7 @@ pub trait Timestamp: PartialOrder + Lattice {
 }
 
 // Moves a time on to its join with another.
+// Kept beside `meet_assign`: a call is all that either does, so one for both is no plainer.
 pub fn join_assign<T: Lattice + Copy>(time: &mut T, other: &T)
     ensures { T.PartialOrder.value time.new ≡ T.joined (T.PartialOrder.value time.old) (T.PartialOrder.value other.now) }
 {

@@ -5,7 +5,7 @@ ghost use Rattle.std.proofs.Common.{rules};
 
 use crate::{Lattice, PartialOrder, Timestamp};
 
-#[derive(Clone, Copy)]
+#[derive(Clone, Copy, Debug)]
 pub struct Product<X, Y> {
     pub outer: X,
     pub inner: Y,

@@ -28,11 +28,11 @@ impl Lattice for u64 {
     ghost meets = { Prim.search rules };
 
     fn join(&self, other: &u64) -> u64 {
-        if *self < *other { *other } else { *self }
+        (*self).max(*other)
     }
 
     fn meet(&self, other: &u64) -> u64 {
-        if *self < *other { *self } else { *other }
+        (*self).min(*other)
     }
 }
 

@@ -5,6 +5,7 @@ ghost use Rattle.std.proofs.Common.{rules};
 
 use crate::Same;
 
+// Kept beside that for `u64`: one for every `Eq` misses `exact`, since an `Eq` may ignore a field.
 impl Same for i64 {
     type Value = i64;
 

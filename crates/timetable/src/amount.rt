@@ -5,11 +5,13 @@ ghost use Rattle.questions.specs.Answers.{Answered};
 ghost use Rattle.timetable.specs.Lessons.{is_amount, amount_value};
 ghost use Rattle.std.proofs.Common.{rules};
 
+use crate::or_least;
 use lattice::Same;
 use questions::Refusal;
 
 // By how much a lesson changes.
-#[derive(Clone, Copy)]
+// No equality is derived: a stored one outside its form is the same as -1,000 (a rule of the project).
+#[derive(Clone, Copy, Debug)]
 pub struct Amount {
     // -1,000 to 1,000; any other number reads as -1,000
     number: i16,
@@ -18,7 +20,7 @@ pub struct Amount {
 fn is_amount(n: i64) -> bool
     ensures { result ≡ is_amount n }
 {
-    -1_000 <= n && n <= 1_000
+    (-1_000..=1_000).contains(&n)
 }
 
 impl Amount {
@@ -38,11 +40,17 @@ impl Amount {
         ensures value { result ≡ amount_value self.now }
         ensures form { T (is_amount result) }
     {
-        if is_amount(self.number as i64) {
-            self.number
-        } else {
-            -1_000
-        }
+        or_least(self.number, is_amount(self.number as i64), -1_000)
+    }
+}
+
+impl TryFrom<i64> for Amount {
+    type Error = Refusal;
+
+    ghost try_from_gives = { λ n r. Answered r ((is_amount n, 14) ∷ []) (λ a. amount_value a ≡ n) (Unit {0}) };
+
+    fn try_from(n: i64) -> Result<Amount, Refusal> {
+        Amount::new(n)
     }
 }
 

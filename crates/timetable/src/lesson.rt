@@ -1,14 +1,23 @@
 // Lessons, the data of the timetable.
-ghost use Rattle.std.specs.Prelude.{◌≡◌, T, [], ◌∷◌};
+ghost use Rattle.std.specs.Prelude.{◌≡◌, ◌&&◌, T, [], ◌∷◌, nat_le};
 ghost use Rattle.questions.specs.Answers.{Answered};
 ghost use Rattle.timetable.specs.Lessons.{is_class, is_room, is_period, is_lesson, lesson_value, alike_lessons};
 ghost use Rattle.std.proofs.Common.{rules};
 
+use crate::or_least;
 use lattice::Same;
 use questions::Refusal;
 
+// Classes, rooms and periods have the numbers from 1 to the last.
+const LAST_CLASS: u64 = 9_999;
+
+const LAST_ROOM: u64 = 200;
+
+const LAST_PERIOD: u64 = 50;
+
 // A class in a room in a period of the week.
-#[derive(Clone, Copy)]
+// No equality is derived: a stored number outside its form is the same as 1 (a rule of the project).
+#[derive(Clone, Copy, Debug)]
 pub struct Lesson {
     // 1 to 9,999; any other number reads as 1
     class: u16,
@@ -18,22 +27,11 @@ pub struct Lesson {
     period: u8,
 }
 
-fn is_class(n: u64) -> bool
-    ensures { result ≡ is_class n }
+// Whether a number is one from 1 to the last.
+fn is_up_to(last: u64, n: u64) -> bool
+    ensures { result ≡ (nat_le 1 n && nat_le n last) }
 {
-    1 <= n && n <= 9_999
-}
-
-fn is_room(n: u64) -> bool
-    ensures { result ≡ is_room n }
-{
-    1 <= n && n <= 200
-}
-
-fn is_period(n: u64) -> bool
-    ensures { result ≡ is_period n }
-{
-    1 <= n && n <= 50
+    (1..=last).contains(&n)
 }
 
 impl Lesson {
@@ -41,7 +39,10 @@ impl Lesson {
     pub fn new(class: u64, room: u64, period: u64) -> Result<Lesson, Refusal>
         ensures { Answered result ((is_lesson (class, room, period), 14) ∷ []) (λ l. lesson_value l ≡ (class, room, period)) (Unit {0}) }
     {
-        if is_class(class) && is_room(room) && is_period(period) {
+        if is_up_to(LAST_CLASS, class)
+            && is_up_to(LAST_ROOM, room)
+            && is_up_to(LAST_PERIOD, period)
+        {
             Ok(Lesson {
                 class: class as u16,
                 room: room as u8,
@@ -56,33 +57,21 @@ impl Lesson {
         ensures value { result ≡ (lesson_value self.now).0 }
         ensures form { T (is_class result) }
     {
-        if is_class(self.class as u64) {
-            self.class
-        } else {
-            1
-        }
+        or_least(self.class, is_up_to(LAST_CLASS, self.class as u64), 1)
     }
 
     pub fn room(&self) -> u8
         ensures value { result ≡ (lesson_value self.now).1 }
         ensures form { T (is_room result) }
     {
-        if is_room(self.room as u64) {
-            self.room
-        } else {
-            1
-        }
+        or_least(self.room, is_up_to(LAST_ROOM, self.room as u64), 1)
     }
 
     pub fn period(&self) -> u8
         ensures value { result ≡ (lesson_value self.now).2 }
         ensures form { T (is_period result) }
     {
-        if is_period(self.period as u64) {
-            self.period
-        } else {
-            1
-        }
+        or_least(self.period, is_up_to(LAST_PERIOD, self.period as u64), 1)
     }
 }
 

@@ -1,12 +1,12 @@
 // Option forms, the data of the pupils' choices.  Their amounts are plain signed numbers.
 ghost use Rattle.std.specs.Prelude.{◌≡◌};
-ghost use Rattle.timetable.specs.Choices.{alike_choices, alike_forms};
+ghost use Rattle.timetable.specs.Choices.{alike_forms};
 ghost use Rattle.std.proofs.Common.{rules};
 
 use lattice::Same;
 
 // What a pupil chooses, with the number of the subject.
-#[derive(Clone, Copy)]
+#[derive(Clone, Copy, Debug, PartialEq, Eq)]
 pub enum Choice {
     // asks for the subject
     Wants(u16),
@@ -17,23 +17,12 @@ pub enum Choice {
 }
 
 // One form handed in.
-#[derive(Clone, Copy)]
+#[derive(Clone, Copy, Debug, PartialEq, Eq)]
 pub struct OptionForm {
     // the number of the pupil
     pub pupil: u16,
     // what that pupil chooses
     pub choice: Choice,
-}
-
-fn same_choice(one: Choice, other: Choice) -> bool
-    ensures { result ≡ alike_choices one other }
-{
-    match (one, other) {
-        (Choice::Wants(m), Choice::Wants(n)) => m == n,
-        (Choice::Reserves(m), Choice::Reserves(n)) => m == n,
-        (Choice::Withdraws, Choice::Withdraws) => true,
-        _ => false,
-    }
 }
 
 impl Same for OptionForm {
@@ -46,6 +35,6 @@ impl Same for OptionForm {
     ghost exact = { Prim.search rules };
 
     fn same(&self, other: &OptionForm) -> bool {
-        self.pupil == other.pupil && same_choice(self.choice, other.choice)
+        *self == *other
     }
 }
