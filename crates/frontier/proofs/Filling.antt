@@ -4,8 +4,8 @@ use Rattle.std.proofs.lemmas.Bool.{and_left, and_parts, leb-true}
 use Rattle.questions.specs.Questions.{first_no}
 use Rattle.frontier.specs.Frontiers.{inserted, inserted_all, fits}
 use Rattle.frontier.specs.Counts.{added, added_all, room}
-use Rattle.frontier.specs.Tables.{in_use, Holds, sized, frontier_size, table_asks, frontier_asks}
-use Rattle.frontier.proofs.Tables.{length_in_use, sized_yes, accepted, refused_full, table_fits, table_full}
+use Rattle.frontier.specs.Tables.{in_use, Holds, frontier_size, table_asks, frontier_asks}
+use Rattle.frontier.proofs.Tables.{length_in_use, accepted, refused_full, table_fits, table_full}
 
 -- a list of S that takes in items of E one by one, and is to have at most n entries after each, as a question asks by its number
 pub record Fold (S E : Type 0) (n number : ℕ) : Type 0 where
@@ -32,11 +32,6 @@ and_true false = refl
 regroup : (a b c : Bool) → (a && (b && c)) ≡ ((a && b) && c)
 regroup true b c = refl
 regroup false b c = refl
-
-either_way : (a b c : Bool) (number f : ℕ) → first_no ((a, 1) ∷ (b, number) ∷ []) ≡ Some f → first_no ((a, 1) ∷ (b && c, number) ∷ []) ≡ Some f
-either_way true true c number f e = let z : ◌≡◌ {A = ℕ} 0 1 = cc in absurd (omega arith)
-either_way true false c number f e = e
-either_way false b c number f e = e
 
 -- taking all into the start comes to what taking the rest into the front comes to
 pub record Filling {S E : Type 0} {n number : ℕ} (k : Fold S E n number) (start : List S) (all : List E) (front : List S) (rest : List E) : Type 0 where
@@ -118,19 +113,6 @@ filled {n = n} {number = number} k value start all left used xs long none fill l
     let made = fill.made ∙ ap (k.all (in_use value used xs)) none ∙ k.all_none (in_use value used xs) in
     (table_fits n number l len (k.fit start all) h j (fill.room ∙ ap (k.fit (in_use value used xs)) none ∙ k.fit_none (in_use value used xs)), (sym made, ap length made ∙ length_in_use value used xs long))
 
--- a list that is taken before another: refused with it, or gone on from
-module _ {X S E : Type 0} {n number : ℕ} (k : Fold S E n number) (value : X → S) (start : List S) (xs ys : List E) (l : ℕ) where
-  pub stops_first : (used f : ℕ) → first_no (table_asks n number l used (k.fit start xs)) ≡ Some f → first_no (table_asks n number l used (k.fit start (xs ++ ys))) ≡ Some f
-  stops_first used f e = ap (λ b. first_no (table_asks n number l used b)) (fit_append k start xs ys) ∙ either_way (sized n used l) (k.fit start xs) (k.fit (k.all start xs) ys) number f e
-
-  pub goes_second : (used m : ℕ) (table : List X) → length start ≡ used → first_no (table_asks n number l used (k.fit start xs)) ≡ None → Holds value m table (k.all start xs) → first_no (table_asks n number l m (k.fit (in_use value m table) ys)) ≡ first_no (table_asks n number l used (k.fit start (xs ++ ys)))
-  goes_second used m table size e made =
-      let told = accepted n number l used (k.fit start xs) e in
-      let few : m ≤ n = omega (arith, made.1, told.0, fit_length k start xs (omega (arith, told.0)) told.2) in
-      let same : k.fit start (xs ++ ys) ≡ k.fit (in_use value m table) ys = fit_append k start xs ys ∙ ap (λ b. b && k.fit (k.all start xs) ys) told.2 ∙ ap (λ es. k.fit es ys) (sym made.0) in
-      ap (λ b. first_no ((b, 1) ∷ (k.fit (in_use value m table) ys, number) ∷ [])) (sized_yes n m l few told.1 ∙ sym (sized_yes n used l told.0 told.1))
-      ∙ ap (λ b. first_no (table_asks n number l used b)) (sym same)
-
 -- a frontier made from nothing, and copied from the table in which it was made
 module _ {X A : Type 0} (below : A → A → Bool) (value : X → A) (all : List A) (n : ℕ) (xs : List X) (made : Holds value n xs (inserted_all below [] all)) where
   pub made_few : (l : ℕ) → first_no (frontier_asks l 0 (fits below frontier_size [] all)) ≡ None → n ≤ frontier_size
@@ -138,3 +120,44 @@ module _ {X A : Type 0} (below : A → A → Bool) (value : X → A) (all : List
 
   pub made_copied : (ys : List X) → take n ys ≡ take n xs → Holds value n ys (inserted_all below [] all)
   made_copied ys e = (ap (map value) e ∙ made.0, made.1)
+
+-- taking all of xs into the start comes to the front, and on the way there never were too many
+pub record Filled {S E : Type 0} {n number : ℕ} (k : Fold S E n number) (start : List S) (xs : List E) (front : List S) : Type 0 where
+  pub made : k.all start xs ≡ front
+  pub room : k.fit start xs ≡ true
+
+module _ {S E : Type 0} {n number : ℕ} (k : Fold S E n number) where
+  pub filled_none : (start : List S) → Filled k start [] start
+  filled_none start = record { made = k.all_none start; room = k.fit_none start }
+
+  -- a table of which used entries are in use, so far
+  module _ {X : Type 0} (value : X → S) (start : List S) (xs : List E) (used : ℕ) (table : List X) (few : used ≤ n) (long : n ≤ length table) (so_far : Filled k start xs (in_use value used table)) (x : E) where
+    abbrev pub asks_one : List (Bool × ℕ)
+    asks_one = table_asks n number (length table) used (leb (length (k.step (in_use value used table) x)) n)
+
+    first_fits : (rest : List E) → k.fit start (xs ++ x ∷ rest) ≡ (leb (length (k.step (in_use value used table) x)) n && k.fit (k.step (in_use value used table) x) rest)
+    first_fits rest =
+        fit_append k start xs (x ∷ rest)
+        ∙ ap (λ b. b && k.fit (k.all start xs) (x ∷ rest)) so_far.room
+        ∙ ap (λ es. k.fit es (x ∷ rest)) so_far.made
+        ∙ k.fit_more (in_use value used table) x rest
+
+    pub filled_more : (m : ℕ) (ys : List X) → first_no asks_one ≡ None → Holds value m ys (k.step (in_use value used table) x) → (m ≤ n) × Filled k start (xs ++ x ∷ []) (in_use value m ys)
+    filled_more m ys e made =
+        let front = in_use value used table in
+        let fit : leb (length (k.step front x)) n ≡ true = (accepted n number (length table) used (leb (length (k.step front x)) n) e).2 in (
+          omega (arith, made.1, leb-true (length (k.step front x)) n fit),
+          record {
+            made = all_append k start xs (x ∷ []) ∙ ap (λ es. k.all es (x ∷ [])) so_far.made ∙ sym (all_one k front x) ∙ sym made.0;
+            room = first_fits [] ∙ ap (λ b. b && k.fit (k.step front x) []) fit ∙ k.fit_none (k.step front x);
+          },
+        )
+
+    pub filled_stop : (f : ℕ) → first_no asks_one ≡ Some f → (rest : List E) (l len : ℕ) → len ≤ n → n ≤ l → first_no (table_asks n number l len (k.fit start (xs ++ x ∷ rest))) ≡ Some f
+    filled_stop f e rest l len h j =
+        let front = in_use value used table in
+        let many = refused_full n number (length table) used (leb (length (k.step front x)) n) few long f e in
+        table_full n number l len (k.fit start (xs ++ x ∷ rest)) h j (first_fits rest ∙ and_left (leb (length (k.step front x)) n) (k.fit (k.step front x) rest) many.0) ∙ ap Some (sym many.1)
+
+  pub filled_all : {X : Type 0} (value : X → S) (start : List S) (xs : List E) (used : ℕ) (table : List X) → used ≤ length table → Filled k start xs (in_use value used table) → (l len : ℕ) → len ≤ n → n ≤ l → (first_no (table_asks n number l len (k.fit start xs)) ≡ None) × Holds value used table (k.all start xs)
+  filled_all value start xs used table long f l len h j = (table_fits n number l len (k.fit start xs) h j f.room, (sym f.made, ap length f.made ∙ length_in_use value used table long))

@@ -1,7 +1,7 @@
 -- What stays of a table under an insertion, and what it reads as.
-use Rattle.std.proofs.Common.{◌≡◌, ℕ, ◌+◌, ◌<◌, ◌≤◌, Bool, true, false, cond, not, List, [], ◌∷◌, ◌++◌, map, length, get_or, take, drop, set, filter, sym, refl, ap, ◌∙◌, arith}
+use Rattle.std.proofs.Common.{◌≡◌, ℕ, ◌+◌, ◌<◌, ◌≤◌, Bool, true, false, cond, not, List, [], ◌∷◌, ◌++◌, map, length, take, drop, set, filter, sym, refl, ap, ◌∙◌, arith}
 use Rattle.std.proofs.lemmas.List.{take_more_set, map_push, length_push, length-map, length-take-le}
-use Rattle.std.proofs.lemmas.List.Filters.{FiltersInPlace, length-filter_more}
+use Rattle.std.proofs.lemmas.List.Filters.{FiltersInPlace}
 use Rattle.std.proofs.lemmas.Bool.{cond-false}
 use Rattle.frontier.specs.Frontiers.{beyond, without, inserted}
 use Rattle.frontier.specs.Tables.{in_use, Holds}
@@ -31,17 +31,6 @@ module _ {X A : Type 0} (below : A → A → Bool) (value : X → A) (t : A) whe
 
   pub length_without : (xs : List X) → length (filter stays xs) ≡ length (without below t (map value xs))
   length_without xs = sym (length-map (filter stays xs) value) ∙ ap length (kept_map (λ e. not (below t e)) value xs)
-
-  -- the loop that counts goes on
-  module _ (xs : List X) (i n : ℕ) (x : X) (h : i < length xs) (read : x ≡ get_or xs i x) (so_far : n ≡ length (filter stays (take i xs))) where
-    step : (b : Bool) → stays x ≡ b → length (filter stays (take (i + 1) xs)) ≡ length (filter stays (take i xs)) + cond b 1 0
-    step b e = length-filter_more stays xs i x h ∙ ap (λ v. length (filter stays (take i xs)) + cond v 1 0) (ap stays (sym read) ∙ e)
-
-    pub count_more_yes : below t (value x) ≡ false → n + 1 ≡ length (filter stays (take (i + 1) xs))
-    count_more_yes e = let s : length (filter stays (take (i + 1) xs)) ≡ length (filter stays (take i xs)) + 1 = step true (ap not e) in omega arith
-
-    pub count_more_no : below t (value x) ≡ true → n ≡ length (filter stays (take (i + 1) xs))
-    count_more_no e = let s : length (filter stays (take (i + 1) xs)) ≡ length (filter stays (take i xs)) + 0 = step false (ap not e) in omega arith
 
 -- a time behind the frontier comes last
 module _ {X A : Type 0} (below : A → A → Bool) (value : X → A) (front : List A) (time : X) (behind : beyond below front (value time) ≡ false) where

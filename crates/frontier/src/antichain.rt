@@ -5,6 +5,7 @@ ghost use Rattle.frontier.specs.Frontiers.{inserted, without};
 ghost use Rattle.frontier.specs.Tables.{in_use, Holds, frontier_asks, frontier_size};
 ghost use Rattle.frontier.specs.Laws.{InsertKeeps};
 
+use crate::entries::retain;
 use crate::{FRONTIER_SIZE, is_beyond};
 use lattice::PartialOrder;
 use questions::Refusal;
@@ -13,32 +14,17 @@ use questions::Refusal;
 fn count_without<T: PartialOrder>(list: &[T], time: &T) -> usize
     ensures { result ≡ length (without T.below (T.value time.now) (map T.value list.now)) }
 {
-    let mut n = 0usize;
-    for e in list {
-        if !time.less_equal(e) {
-            n += 1;
-        }
-    }
-    n
+    list.iter().filter(|e| !time.less_equal(*e)).count()
 }
 
-// Moves those of the first `len` times that are not at or after the time to the front, in their
-// order, and tells how many they are.
+// Keeps those of the first `len` times that are not at or after the time, and tells how many they are.
 fn keep_without<T: PartialOrder + Copy>(table: &mut [T], len: usize, time: &T) -> usize
     requires { len ≤ length table.old }
     ensures within { result ≤ len }
     ensures after { Holds T.value result table.new (without T.below (T.value time.now) (in_use T.value len table.old)) }
     ensures rest { drop len table.new ≡ drop len table.old }
 {
-    let mut k = 0usize;
-    for i in 0..len {
-        let e = table[i];
-        if !time.less_equal(&e) {
-            table[k] = e;
-            k += 1;
-        }
-    }
-    k
+    retain(table, len, |e| !time.less_equal(e))
 }
 
 // Inserts a time into the frontier that stands in the first `len` entries, and tells how many

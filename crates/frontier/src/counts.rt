@@ -12,12 +12,10 @@ use questions::Refusal;
 fn find<T: PartialOrder>(table: &[(T, i64)], time: &T) -> usize
     ensures { result ≡ prefix_len (other T.below (T.value time.now)) (map (counted T.value) table.now) }
 {
-    for (i, e) in table.iter().enumerate() {
-        if same_time(&e.0, time) {
-            return i;
-        }
-    }
-    table.len()
+    table
+        .iter()
+        .position(|e| same_time(&e.0, time))
+        .unwrap_or(table.len())
 }
 
 // Takes the entry at a place out of the first `len`, and keeps the order of the others.

@@ -8,7 +8,7 @@ ghost use Rattle.frontier.specs.Frontiers.{fits, pairwise, join, meet};
 ghost use Rattle.frontier.specs.Laws.{JoinKeeps, MeetKeeps};
 ghost use Rattle.frontier.specs.Tables.{Holds, frontier_asks, frontier_size};
 
-use crate::{FRONTIER_SIZE, steps};
+use crate::{FRONTIER_SIZE, entries, steps};
 use lattice::{Lattice, PartialOrder};
 use questions::Refusal;
 
@@ -31,7 +31,7 @@ pub fn antichain_join_into<T: Lattice + Copy>(
         return Err(Refusal::ShortTable);
     }
     let n = steps::join_into(one, other, scratch)?;
-    steps::copy_entries(scratch, upper, n);
+    entries::copy_entries(scratch, upper, n);
     Ok(n)
 }
 
@@ -54,6 +54,6 @@ pub fn antichain_meet<T: PartialOrder + Copy>(
         return Err(Refusal::ShortTable);
     }
     let n = steps::meet_into(one, other, scratch)?;
-    steps::copy_entries(scratch, upper, n);
+    entries::copy_entries(scratch, upper, n);
     Ok(n)
 }

@@ -7,6 +7,7 @@
 
 mod antichain;
 mod counts;
+pub mod entries;
 mod joins;
 mod lists;
 pub mod steps;

@@ -9,48 +9,28 @@ use lattice::{Lattice, PartialOrder, same_time};
 pub fn is_beyond<T: PartialOrder>(list: &[T], time: &T) -> bool
     ensures { result ≡ beyond T.below (map T.value list.now) (T.value time.now) }
 {
-    for e in list {
-        if e.less_equal(time) {
-            return true;
-        }
-    }
-    false
+    list.iter().any(|e| e.less_equal(time))
 }
 
 // Whether every time of the other list is beyond the one.
 pub fn antichain_less_equal<T: PartialOrder>(one: &[T], other: &[T]) -> bool
     ensures { result ≡ leq T.below (map T.value one.now) (map T.value other.now) }
 {
-    for t in other {
-        if !is_beyond(one, t) {
-            return false;
-        }
-    }
-    true
+    other.iter().all(|t| is_beyond(one, t))
 }
 
 // Whether the time stands in the list.
 fn is_in<T: PartialOrder>(list: &[T], time: &T) -> bool
     ensures { result ≡ holds T.below (map T.value list.now) (T.value time.now) }
 {
-    for e in list {
-        if same_time(e, time) {
-            return true;
-        }
-    }
-    false
+    list.iter().any(|e| same_time(e, time))
 }
 
 // Whether every time of the one list stands in the other.
 fn is_within<T: PartialOrder>(one: &[T], other: &[T]) -> bool
     ensures { result ≡ within T.below (map T.value one.now) (map T.value other.now) }
 {
-    for t in one {
-        if !is_in(other, t) {
-            return false;
-        }
-    }
-    true
+    one.iter().all(|t| is_in(other, t))
 }
 
 // Whether two frontiers hold the same times, in whatever order.

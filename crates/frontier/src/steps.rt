@@ -1,16 +1,43 @@
 // Steps that our own crates share.
 //
 // Where a step refuses, what it wrote into its table stays there.  So callers hand it a scratch
-// table, and take over what it made only when it was accepted.  `copy_entries` asks of its callers
-// that both tables have the entries that it copies.
-ghost use Rattle.std.specs.Prelude.{◌≡◌, ◌≤◌, [], ◌++◌, map, length, take, drop};
+// table, and take over what it made only when it was accepted.
+ghost use Rattle.std.specs.Prelude.{◌≡◌, [], ◌++◌, map, length, drop, List, ℤ};
+ghost use Rattle.std.specs.Iterator.{AlwaysYields, IsFinite};
 ghost use Rattle.questions.specs.Answers.{Answered};
 ghost use Rattle.frontier.specs.Frontiers.{inserted_all, fits, pairwise, join, meet};
-ghost use Rattle.frontier.specs.Tables.{in_use, Holds, frontier_asks, frontier_size};
+ghost use Rattle.frontier.specs.Counts.{added_all, room};
+ghost use Rattle.frontier.specs.Tables.{in_use, Holds, frontier_asks, frontier_size, table_asks, counted};
 
-use crate::{FRONTIER_SIZE, insert};
+pub use crate::entries::copy_entries;
+use crate::{FRONTIER_SIZE, insert, update};
 use lattice::{Lattice, PartialOrder};
 use questions::Refusal;
+
+// Inserts each time that the iterator gives into the frontier that stands in the first `len`
+// entries, and tells how many times it has then.
+pub fn insert_all<T: PartialOrder + Copy, I: Iterator<Item = T>>(
+    table: &mut [T],
+    len: usize,
+    times: I,
+) -> Result<usize, Refusal>
+    requires can { I.can_next times }
+    requires finite { IsFinite (I.remaining times) }
+    ensures answer { (all : List T.Value) → AlwaysYields I.next_gives T.value times all → Answered result
+        (frontier_asks (length table.old) len (fits T.below frontier_size (in_use T.value len table.old) all))
+        (λ n. Holds T.value n table.new (inserted_all T.below (in_use T.value len table.old) all))
+        (Unit {0}) }
+    ensures rest { drop frontier_size table.new ≡ drop frontier_size table.old }
+{
+    if len > FRONTIER_SIZE || table.len() < FRONTIER_SIZE {
+        return Err(Refusal::ShortTable);
+    }
+    let mut n = len;
+    for t in times {
+        n = insert(table, n, t)?;
+    }
+    Ok(n)
+}
 
 // Inserts each time of the list, in its order, into the frontier that stands in the first `len`
 // entries, and tells how many times it has then.
@@ -25,35 +52,31 @@ pub fn extend<T: PartialOrder + Copy>(
         (Unit {0}) }
     ensures rest { drop frontier_size table.new ≡ drop frontier_size table.old }
 {
-    if len > FRONTIER_SIZE || table.len() < FRONTIER_SIZE {
-        return Err(Refusal::ShortTable);
-    }
-    let mut n = len;
-    for t in list {
-        n = insert(table, n, *t)?;
-    }
-    Ok(n)
+    insert_all(table, len, list.iter().copied())
 }
 
-// Inserts the join of a time with each time of the list, as `extend` does.
-fn extend_by_joins<T: Lattice + Copy>(
-    table: &mut [T],
+// Adds each amount that the iterator gives to the count of its time, in a table that has `len`
+// entries in use and at most `limit`, and tells how many it has then.
+pub fn update_all<T: PartialOrder + Copy, I: Iterator<Item = (T, i64)>>(
+    table: &mut [(T, i64)],
     len: usize,
-    time: &T,
-    list: &[T],
+    limit: usize,
+    amounts: I,
 ) -> Result<usize, Refusal>
-    ensures answer { Answered result
-        (frontier_asks (length table.old) len (fits T.PartialOrder.below frontier_size (in_use T.PartialOrder.value len table.old) (map (T.joined (T.PartialOrder.value time.now)) (map T.PartialOrder.value list.now))))
-        (λ n. Holds T.PartialOrder.value n table.new (inserted_all T.PartialOrder.below (in_use T.PartialOrder.value len table.old) (map (T.joined (T.PartialOrder.value time.now)) (map T.PartialOrder.value list.now))))
+    requires can { I.can_next amounts }
+    requires finite { IsFinite (I.remaining amounts) }
+    ensures answer { (all : List (T.Value × ℤ)) → AlwaysYields I.next_gives (counted T.value) amounts all → Answered result
+        (table_asks limit 11 (length table.old) len (room T.below limit (in_use (counted T.value) len table.old) all))
+        (λ n. Holds (counted T.value) n table.new (added_all T.below (in_use (counted T.value) len table.old) all))
         (Unit {0}) }
-    ensures rest { drop frontier_size table.new ≡ drop frontier_size table.old }
+    ensures rest { drop limit table.new ≡ drop limit table.old }
 {
-    if len > FRONTIER_SIZE || table.len() < FRONTIER_SIZE {
+    if len > limit || table.len() < limit {
         return Err(Refusal::ShortTable);
     }
     let mut n = len;
-    for t in list {
-        n = insert(table, n, time.join(t))?;
+    for (time, amount) in amounts {
+        n = update(table, n, limit, time, amount)?;
     }
     Ok(n)
 }
@@ -70,14 +93,10 @@ pub fn join_into<T: Lattice + Copy>(
         (Unit {0}) }
     ensures rest { drop frontier_size table.new ≡ drop frontier_size table.old }
 {
-    if table.len() < FRONTIER_SIZE {
-        return Err(Refusal::ShortTable);
-    }
-    let mut n = 0usize;
-    for t in one {
-        n = extend_by_joins(table, n, t, other)?;
-    }
-    Ok(n)
+    let joins = one
+        .iter()
+        .flat_map(|t| other.iter().map(move |u| t.join(u)));
+    insert_all(table, 0, joins)
 }
 
 // Makes the meet of two lists in a table, the first list first.
@@ -92,16 +111,5 @@ pub fn meet_into<T: PartialOrder + Copy>(
         (Unit {0}) }
     ensures rest { drop frontier_size table.new ≡ drop frontier_size table.old }
 {
-    let n = extend(table, 0, one)?;
-    extend(table, n, other)
-}
-
-// Copies the first `n` entries of one table to the front of another.
-pub fn copy_entries<X: Copy>(from: &[X], to: &mut [X], n: usize)
-    requires { (n ≤ length from.now) × (n ≤ length to.old) }
-    ensures front { take n to.new ≡ take n from.now }
-    ensures rest { drop n to.new ≡ drop n to.old }
-{
-    let part = &mut to[0..n];
-    part.copy_from_slice(&from[0..n]);
+    insert_all(table, 0, one.iter().chain(other).copied())
 }

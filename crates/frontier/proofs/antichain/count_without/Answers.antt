@@ -1,15 +1,12 @@
-use Rattle.std.proofs.Common.{length, filter, ap, ◌∙◌, rules}
-use Rattle.std.proofs.lemmas.List.{take_all}
-use Rattle.frontier.proofs.Inserting.{stays, count_more_yes, count_more_no, length_without}
+use Rattle.std.proofs.Common.{◌∙◌, rules, tests}
+use Rattle.std.proofs.lemmas.Iterator.{YieldsList-from_slice}
+use Rattle.std.proofs.lemmas.Iterator.Consumers.{YieldsList-from_filter, YieldsList-at, count_from_yields_List}
+use Rattle.frontier.proofs.Inserting.{stays, length_without}
 use Rattle.frontier.proofs.antichain.count_without.Goals as goal
-use Rattle.frontier.proofs.antichain.count_without.Goals.{then-not-less_equal, else-not-less_equal}
-
-pub loop-e-preserved : goal.loop-e-preserved
-loop-e-preserved g c =
-    elim c.if-not-less_equal.branch [ then-not-less_equal w ↦ search (rules, count_more_yes) | else-not-less_equal w ↦ search (rules, count_more_no) ]
 
 pub returns : goal.returns
 returns g c =
     let o = g.T.PartialOrder in
     let t = o.value c.args.time.now in
-    c.loop-e.invariant.1 ∙ ap (λ xs. length (filter (stays o.below o.value t) xs)) (take_all c.loop-e.e-index c.args.list.now c.loop-e-test.false) ∙ length_without o.below o.value t c.args.list.now
+    count_from_yields_List c.filter.result _ c.count.ensures.ran (YieldsList-from_filter _ (stays o.below o.value t) (YieldsList-at c.filter.ensures.source (YieldsList-from_slice c.args.list.now cc)) c.filter.ensures.closure (λ x b q k. search (rules, tests)))
+    ∙ length_without o.below o.value t c.args.list.now

@@ -1,20 +1,19 @@
-use Rattle.std.proofs.Common.{not, sym, ap, ◌∙◌, arith}
+use Rattle.std.proofs.Common.{length, ap, ◌∙◌, rules, tests}
+use Rattle.std.proofs.lemmas.Iterator.{YieldsList-from_slice}
+use Rattle.std.proofs.lemmas.Iterator.Search.{position_from_yields_List}
+use Rattle.std.specs.Option.{unwrap_or}
+use Rattle.lattice.specs.Orders.{at_once}
 use Rattle.frontier.specs.Counts.{other}
 use Rattle.frontier.specs.Tables.{counted}
-use Rattle.frontier.proofs.Adding.{leading_on, leading_here, leading_end}
+use Rattle.frontier.proofs.Tests.{place_of, prefix_reads}
 use Rattle.frontier.proofs.counts.find.Goals as goal
-
-pub returns-then-same_time : goal.returns-then-same_time
-returns-then-same_time g c =
-    let o = g.T.PartialOrder in
-    leading_here (other o.below (o.value c.args.time.now)) (counted o.value) c.args.table.now c.loop-i.i c.loop-i.invariant c.index-table-i.result c.loop-i-test.true c.index-table-i.is (ap not (sym c.same_time.ensures.value ∙ c.if-same_time.true))
-
-pub loop-i-preserved : goal.loop-i-preserved
-loop-i-preserved g c =
-    let o = g.T.PartialOrder in
-    leading_on (other o.below (o.value c.args.time.now)) (counted o.value) c.args.table.now c.loop-i.i c.loop-i.invariant c.index-table-i.result c.loop-i-test.true c.index-table-i.is (ap not (sym c.same_time.ensures.value ∙ c.if-same_time.false))
 
 pub returns : goal.returns
 returns g c =
     let o = g.T.PartialOrder in
-    leading_end (other o.below (o.value c.args.time.now)) (counted o.value) c.args.table.now c.loop-i.i c.loop-i.invariant c.loop-i-test.false (omega arith)
+    let t = o.value c.args.time.now in
+    let xs = c.args.table.now in
+    c.unwrap_or.ensures
+    ∙ ap (λ r. unwrap_or r (length xs)) (position_from_yields_List (λ e. at_once o.below (o.value e.0) t) _ _ c.position.result c.position.ensures.ran (YieldsList-from_slice xs cc) (λ x b q k. search (rules, tests)))
+    ∙ place_of (λ e. at_once o.below (o.value e.0) t) xs
+    ∙ prefix_reads (counted o.value) (other o.below t) xs

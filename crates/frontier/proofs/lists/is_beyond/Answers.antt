@@ -1,19 +1,13 @@
-use Rattle.std.proofs.Common.{sym, refl, ◌∙◌}
+use Rattle.std.proofs.Common.{refl, ◌∙◌, rules, tests}
+use Rattle.std.proofs.lemmas.Iterator.{YieldsList-from_slice}
+use Rattle.std.proofs.lemmas.Iterator.Search.{any_from_yields_List}
 use Rattle.frontier.specs.Frontiers.{beyond}
-use Rattle.frontier.proofs.Walks.{any_here, any_past, walked}
+use Rattle.frontier.proofs.Tests.{any_reads}
 use Rattle.frontier.proofs.lists.is_beyond.Goals as goal
-
-pub returns-then-less_equal : goal.returns-then-less_equal
-returns-then-less_equal g c =
-    let o = g.T.PartialOrder in
-    sym (any_here o.value c.args.list.now c.loop-e.e-index c.e-item.result c.loop-e-test.true c.e-item.is (λ ys. beyond o.below ys (o.value c.args.time.now)) (λ e. o.below e (o.value c.args.time.now)) (λ _ _. refl) (sym c.less_equal.ensures ∙ c.if-less_equal.true)) ∙ c.loop-e.invariant
-
-pub loop-e-preserved : goal.loop-e-preserved
-loop-e-preserved g c =
-    let o = g.T.PartialOrder in
-    sym (any_past o.value c.args.list.now c.loop-e.e-index c.e-item.result c.loop-e-test.true c.e-item.is (λ ys. beyond o.below ys (o.value c.args.time.now)) (λ e. o.below e (o.value c.args.time.now)) (λ _ _. refl) (sym c.less_equal.ensures ∙ c.if-less_equal.false)) ∙ c.loop-e.invariant
 
 pub returns : goal.returns
 returns g c =
     let o = g.T.PartialOrder in
-    sym (walked o.value c.args.list.now c.loop-e.e-index (λ ys. beyond o.below ys (o.value c.args.time.now)) c.loop-e-test.false) ∙ c.loop-e.invariant
+    let t = o.value c.args.time.now in
+    any_from_yields_List (λ e. o.below (o.value e) t) _ _ _ c.any.ensures.ran (YieldsList-from_slice c.args.list.now cc) (λ x b q k. search (rules, tests))
+    ∙ any_reads o.value (λ ys. beyond o.below ys t) (λ e. o.below e t) refl (λ _ _. refl) c.args.list.now

@@ -1,9 +1,0 @@
-use Rattle.std.proofs.Common.{◌≡◌, map, drop}
-use Rattle.frontier.specs.Frontiers.{beyond}
-use Rattle.frontier.proofs.lists.is_beyond.Given as goal
-
--- what is left answers for the whole
-abbrev pub invariant-loop-e : goal.invariant-loop-e
-invariant-loop-e g l =
-    let o = g.T.PartialOrder in
-    beyond o.below (map o.value (drop l.e-index l.list)) (o.value l.time) ≡ beyond o.below (map o.value l.list) (o.value l.time)
