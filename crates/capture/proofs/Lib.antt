@@ -16,6 +16,5 @@ pub mod Standings
 pub mod Invariant
 pub mod LawHolds
 pub mod MadeWell
-pub mod Copies
 pub mod Lengths
 pub mod Queues

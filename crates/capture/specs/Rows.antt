@@ -1,12 +1,12 @@
 -- What a list in stored form reads as, and what it means to store something.
-use Rattle.std.specs.Prelude.{◌≡◌, ℕ, min, Bool, List, [], ◌∷◌, length, take, Result, nat_le}
+use Rattle.std.specs.Prelude.{◌≡◌, ℕ, Bool, List, [], ◌∷◌, length, take, Result, nat_le}
 use Rattle.questions.specs.declared.Refusal.{Refusal}
 use Rattle.questions.specs.Answers.{Answered}
 use Rattle.capture.specs.declared.row.Row.{Row}
 
--- the values in use stand first; a number of them out of range reads as the largest inside
+-- the values in use, which stand first
 abbrev pub row : {X : Type 0} {n : ℕ} → Row X n → List X
-row {n = n} r = take (min r.len n) r.items
+row r = take r.len r.items
 
 -- the list is not too long for a row of n places
 abbrev pub has_places : {X : Type 0} → ℕ → List X → Bool

@@ -13,5 +13,5 @@ mod writer;
 pub use law::{law_of_runs, messages_of_runs, sample_run, worked_deliveries};
 pub use message::{MESSAGE_CHANGES, Message, Progress, STATEMENT_COUNTS, STATEMENT_TIMES};
 pub use row::Row;
-pub use stored::{StoredMessage, StoredProgress, StoredUpdates};
+pub use stored::{Sort, StoredMessage, StoredProgress, StoredUpdates};
 pub use writer::Writer;

@@ -1,10 +1,9 @@
 // Messages as views over lent slices, of any length.
-ghost use Rattle.std.specs.Prelude.{◌≡◌, ⊤};
+ghost use Rattle.std.specs.Prelude.{◌≡◌};
 ghost use Rattle.capture.specs.Messages.{short, short_statement};
 ghost use Rattle.capture.specs.Views.{message_of, statement_of};
 
 use lattice::{PartialOrder, Same};
-use std::alloc::AllocError;
 
 // A message that is not too long has at most so many changes,
 pub const MESSAGE_CHANGES: usize = 64;
@@ -14,6 +13,7 @@ pub const STATEMENT_TIMES: usize = 32;
 pub const STATEMENT_COUNTS: usize = 256;
 
 // A message of the protocol.
+#[derive_where(Clone, Copy)]
 pub enum Message<'a, D, T, R> {
     // Changes that are certain to occur: the data, the time and the amount of each.
     Updates(&'a [(D, T, R)]),
@@ -21,19 +21,8 @@ pub enum Message<'a, D, T, R> {
     Progress(Progress<'a, T>),
 }
 
-impl<'a, D, T, R> Clone for Message<'a, D, T, R> {
-    ghost is_clone = { λ x y. y ≡ x };
-
-    ghost is_infallible = { λ _. ⊤ };
-
-    fn clone(&self) -> Result<Message<'a, D, T, R>, AllocError> {
-        Ok(*self)
-    }
-}
-
-impl<'a, D, T, R> Copy for Message<'a, D, T, R> {}
-
 // A statement about how many distinct changes occur at the times beyond `lower` and behind `upper`.
+#[derive_where(Clone, Copy)]
 pub struct Progress<'a, T> {
     // where the statement begins
     pub lower: &'a [T],
@@ -42,18 +31,6 @@ pub struct Progress<'a, T> {
     // how many changes occur at a time; a time that is not listed has none
     pub counts: &'a [(T, u32)],
 }
-
-impl<'a, T> Clone for Progress<'a, T> {
-    ghost is_clone = { λ x y. y ≡ x };
-
-    ghost is_infallible = { λ _. ⊤ };
-
-    fn clone(&self) -> Result<Progress<'a, T>, AllocError> {
-        Ok(*self)
-    }
-}
-
-impl<'a, T> Copy for Progress<'a, T> {}
 
 impl<'a, D: Same, T: PartialOrder, R: Same> Message<'a, D, T, R> {
     // Whether the message is not too long, as question 2 asks.

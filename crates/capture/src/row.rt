@@ -1,18 +1,21 @@
 // Lists in stored form: a row of places, the first of them in use.
-ghost use Rattle.std.specs.Prelude.{◌≡◌, ◌≤◌, [], ◌∷◌, ◌++◌, length, take, nat_lt, ⊤};
-ghost use Rattle.capture.specs.Rows.{Stores, has_places, row};
+ghost use Rattle.std.specs.Prelude.{◌≡◌, ◌≤◌, [], ◌∷◌, ◌++◌, length, ⊤};
 
 use questions::Refusal;
 use std::alloc::AllocError;
 
 // A list of at most N values, as it lies in an entry of a table.
+//
+// No `ArrayVec`: that is not `Copy`, and the entries of a table are copied.
 pub struct Row<X, const N: usize> {
     // the values in use stand first; what stands after them is left from before
     items: [X; N],
-    // how many are in use; a number over N reads as N
+    // how many are in use
     len: usize,
+    ghost few: { len ≤ N },
 }
 
+// By hand: `Clone` cannot be derived for a generic struct with a ghost field.
 impl<X: Copy, const N: usize> Clone for Row<X, N> {
     ghost is_clone = { λ x y. y ≡ x };
 
@@ -26,6 +29,8 @@ impl<X: Copy, const N: usize> Clone for Row<X, N> {
 impl<X: Copy, const N: usize> Copy for Row<X, N> {}
 
 impl<X: Copy, const N: usize> Row<X, N> {
+    ghost use Rattle.capture.specs.Rows.{Stores, has_places, row};
+
     // A row with nothing in use.
     pub fn new(filler: X) -> Row<X, N>
         ensures { row result ≡ [] }
@@ -40,9 +45,7 @@ impl<X: Copy, const N: usize> Row<X, N> {
     pub fn view(&self) -> &[X]
         ensures { result.now ≡ row self.now }
     {
-        let n = if self.len < N { self.len } else { N };
-        let all = &self.items[..];
-        &all[0..n]
+        &self.items[..self.len]
     }
 
     // Takes all values out.
@@ -52,19 +55,16 @@ impl<X: Copy, const N: usize> Row<X, N> {
         self.len = 0;
     }
 
-    // Puts a value last where there is a place for it, and tells whether there was.
-    pub fn push(&mut self, item: X) -> bool
-        ensures room { result ≡ nat_lt (length (row self.old)) N }
-        ensures after { row self.new ≡ take N (row self.old ++ item ∷ []) }
+    // Puts a value last, where there is a place for it.
+    pub fn push(&mut self, item: X) -> Result<(), Refusal>
+        ensures { Stores row (has_places N) result self.old self.new (row self.old ++ item ∷ []) }
     {
-        let n = self.view().len();
-        if n < N {
-            self.items[n] = item;
-            self.len = n + 1;
-            true
-        } else {
-            false
+        if self.len == N {
+            return Err(Refusal::LongMessage);
         }
+        self.items[self.len] = item;
+        self.len += 1;
+        Ok(())
     }
 
     // Puts a list that is not too long in place of the values.
@@ -72,9 +72,7 @@ impl<X: Copy, const N: usize> Row<X, N> {
         requires { length from.now ≤ N }
         ensures { row self.new ≡ from.now }
     {
-        for i in 0..from.len() {
-            self.items[i] = from[i];
-        }
+        self.items[..from.len()].copy_from_slice(from);
         self.len = from.len();
     }
 

@@ -1,7 +1,7 @@
 // Messages in stored form, one entry of a table to a message.
 //
 // Nothing about an entry is assumed: whatever it holds reads as some message that is not too long.
-ghost use Rattle.std.specs.Prelude.{◌≡◌, true, [], ⊤};
+ghost use Rattle.std.specs.Prelude.{◌≡◌, true, []};
 ghost use Rattle.capture.specs.Messages.{changes, short, short_statement};
 ghost use Rattle.capture.specs.Views.{message_of, statement_of};
 ghost use Rattle.capture.specs.Rows.{Stores};
@@ -11,32 +11,20 @@ use crate::message::{MESSAGE_CHANGES, STATEMENT_COUNTS, STATEMENT_TIMES};
 use crate::{Message, Progress, Row};
 use lattice::{PartialOrder, Same};
 use questions::Refusal;
-use std::alloc::AllocError;
 
 // The changes of a message, in stored form.
 pub type StoredUpdates<D, T, R> = Row<(D, T, R), MESSAGE_CHANGES>;
 
 // A statement in stored form.
+#[derive_where(Clone, Copy; T: Copy)]
 pub struct StoredProgress<T> {
     // the lower list
-    lower: Row<T, STATEMENT_TIMES>,
+    pub lower: Row<T, STATEMENT_TIMES>,
     // the upper list
-    upper: Row<T, STATEMENT_TIMES>,
+    pub upper: Row<T, STATEMENT_TIMES>,
     // the counts
-    counts: Row<(T, u32), STATEMENT_COUNTS>,
+    pub counts: Row<(T, u32), STATEMENT_COUNTS>,
 }
-
-impl<T: Copy> Clone for StoredProgress<T> {
-    ghost is_clone = { λ x y. y ≡ x };
-
-    ghost is_infallible = { λ _. ⊤ };
-
-    fn clone(&self) -> Result<StoredProgress<T>, AllocError> {
-        Ok(*self)
-    }
-}
-
-impl<T: Copy> Copy for StoredProgress<T> {}
 
 impl<T: PartialOrder + Copy> StoredProgress<T> {
     // A statement with empty lists.
@@ -83,27 +71,27 @@ impl<T: PartialOrder + Copy> StoredProgress<T> {
     }
 }
 
+// The sorts of message.
+#[derive(Clone, Copy)]
+pub enum Sort {
+    // changes
+    Updates,
+    // a statement
+    Progress,
+}
+
 // A message of either sort in stored form.
+//
+// An enum of both parts is no plainer: to put changes over a statement, it needs a change to fill places with.
+#[derive_where(Clone, Copy; D: Copy, T: Copy, R: Copy)]
 pub struct StoredMessage<D, T, R> {
-    // whether it is a statement; what the part for the other sort holds is left from before
-    stated: bool,
+    // its sort; what the part for the other sort holds is left from before
+    pub sort: Sort,
     // the changes
-    updates: StoredUpdates<D, T, R>,
+    pub updates: StoredUpdates<D, T, R>,
     // the statement
-    progress: StoredProgress<T>,
+    pub progress: StoredProgress<T>,
 }
-
-impl<D: Copy, T: Copy, R: Copy> Clone for StoredMessage<D, T, R> {
-    ghost is_clone = { λ x y. y ≡ x };
-
-    ghost is_infallible = { λ _. ⊤ };
-
-    fn clone(&self) -> Result<StoredMessage<D, T, R>, AllocError> {
-        Ok(*self)
-    }
-}
-
-impl<D: Copy, T: Copy, R: Copy> Copy for StoredMessage<D, T, R> {}
 
 impl<D: Same + Copy, T: PartialOrder + Copy, R: Same + Copy> StoredMessage<D, T, R> {
     // A message without changes.
@@ -111,7 +99,7 @@ impl<D: Same + Copy, T: PartialOrder + Copy, R: Same + Copy> StoredMessage<D, T,
         ensures { stored_message D.Same.value T.PartialOrder.value R.Same.value result ≡ changes [] }
     {
         StoredMessage {
-            stated: false,
+            sort: Sort::Updates,
             updates: Row::new(filler),
             progress: StoredProgress::new(filler.1),
         }
@@ -121,10 +109,9 @@ impl<D: Same + Copy, T: PartialOrder + Copy, R: Same + Copy> StoredMessage<D, T,
     pub fn view(&self) -> Message<'_, D, T, R>
         ensures { message_of D.Same.value T.PartialOrder.value R.Same.value result ≡ stored_message D.Same.value T.PartialOrder.value R.Same.value self.now }
     {
-        if self.stated {
-            Message::Progress(self.progress.view())
-        } else {
-            Message::Updates(self.updates.view())
+        match self.sort {
+            Sort::Updates => Message::Updates(self.updates.view()),
+            Sort::Progress => Message::Progress(self.progress.view()),
         }
     }
 
@@ -138,11 +125,11 @@ impl<D: Same + Copy, T: PartialOrder + Copy, R: Same + Copy> StoredMessage<D, T,
         match item {
             Message::Updates(changes) => {
                 self.updates.fill(changes);
-                self.stated = false;
+                self.sort = Sort::Updates;
             }
             Message::Progress(statement) => {
                 self.progress.fill(statement);
-                self.stated = true;
+                self.sort = Sort::Progress;
             }
         }
         Ok(())
