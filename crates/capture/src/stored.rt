@@ -38,6 +38,15 @@ impl<T: PartialOrder + Copy> StoredProgress<T> {
         }
     }
 
+    // Empties all lists.
+    pub fn clear(&mut self)
+        ensures { stored_statement T.PartialOrder.value self.new ≡ record { lower = []; upper = []; counts = [] } }
+    {
+        self.lower.clear();
+        self.upper.clear();
+        self.counts.clear();
+    }
+
     // The statement.
     pub fn view(&self) -> Progress<'_, T>
         ensures { statement_of T.PartialOrder.value result ≡ stored_statement T.PartialOrder.value self.now }

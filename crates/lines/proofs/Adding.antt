@@ -1,59 +1,77 @@
 -- One line more of a statement.
-use Rattle.std.proofs.Common.{◌≡◌, ℕ, Bool, true, false, ◌&&◌, ltb, leb, [], ◌∷◌, ◌++◌, map, length, take, sym, refl, ap, ◌∙◌}
-use Rattle.std.proofs.lemmas.Bool.{cond-true}
+use Rattle.std.proofs.Common.{◌≡◌, ℕ, Bool, true, false, ◌&&◌, leb, [], ◌∷◌, ◌++◌, map, length, take, Result, sym, refl, ap, ◌∙◌}
+use Rattle.std.specs.Prelude.{is_ok}
+use Rattle.std.proofs.Math.Bool.{and-true, and-false}
+use Rattle.std.proofs.lemmas.Bool.{true≢false, cond-true}
 use Rattle.lattice.specs.declared.product.Product.{Product}
 use Rattle.timetable.specs.declared.week.Week.{Week}
-use Rattle.capture.specs.Messages.{Statement}
+use Rattle.questions.specs.declared.Refusal.{Refusal}
+use Rattle.capture.specs.Messages.{Statement, statement, short_statement}
+use Rattle.capture.specs.Sizes.{statement_times, statement_counts}
 use Rattle.capture.specs.Views.{count_of}
-use Rattle.capture.specs.Rows.{row}
+use Rattle.capture.specs.Stored.{stored_statement}
+use Rattle.capture.specs.Rows.{Stores, has_places, row}
+use Rattle.capture.specs.declared.row.Row.{Row}
+use Rattle.capture.specs.declared.stored.StoredProgress.{StoredProgress}
 use Rattle.lines.specs.Said.{a_lower, an_upper, a_count}
-use Rattle.lines.specs.Format.{in_statement, goes_on, stops, until_lower, until_upper}
+use Rattle.lines.specs.Format.{in_statement, goes_on, step, until_lower, until_upper}
+use Rattle.lines.specs.Blocks.{front_of}
 use Rattle.lines.specs.Values.{time_value}
-use Rattle.lines.specs.Statements.{Keeps, Takes}
-use Rattle.lines.specs.declared.statement.StatementRows.{StatementRows}
-use Rattle.lines.specs.declared.statement.Taken.TheVariants.{More}
+use Rattle.lines.specs.declared.part.Part.{Part}
 use Rattle.lines.specs.declared.part.Part.TheVariants.{Lower, Upper, Counts}
-use Rattle.lines.proofs.Reading.{front_more, fits_more}
+use Rattle.lines.proofs.Reading.{pushed}
 
-first_of : (r a b c : Bool) → (r && (a && (b && c))) ≡ ((r && a) && (b && c))
-first_of true a b c = refl
-first_of false a b c = refl
+-- the rows have the first of each list of the statement, as many as they have places for, and it is told whether that is all
+pub record Keeps (rows : StoredProgress (Product ℕ Week)) (whole : Bool) (s : Statement (ℕ × ℕ)) : Type 0 where
+  pub lower : map time_value (row rows.lower) ≡ take statement_times s.lower
+  pub upper : map time_value (row rows.upper) ≡ take statement_times s.upper
+  pub counts : map (count_of time_value) (row rows.counts) ≡ take statement_counts s.counts
+  pub fits : whole ≡ short_statement s
 
-second_of : (r a b c : Bool) → (r && (a && (b && c))) ≡ (a && ((r && b) && c))
-second_of true a b c = refl
-second_of false true b c = refl
-second_of false false b c = refl
+-- what the rows read as then
+pub kept_front : (rows : StoredProgress (Product ℕ Week)) (whole : Bool) (s : Statement (ℕ × ℕ)) → Keeps rows whole s → statement (stored_statement time_value rows) ≡ front_of (statement s)
+kept_front rows whole s keeps = let lower = keeps.lower in let upper = keeps.upper in let counts = keeps.counts in cc
 
-third_of : (r a b c : Bool) → (r && (a && (b && c))) ≡ (a && (b && (r && c)))
-third_of true a b c = refl
-third_of false true true c = refl
-third_of false true false c = refl
-third_of false false b c = refl
+-- a test more at one of three
+first_of : (r a b c : Bool) → ((a && (b && c)) && r) ≡ ((a && r) && (b && c))
+first_of true true b c = and-true (b && c)
+first_of false true b c = and-false (b && c)
+first_of r false b c = refl
 
-module _ (before after : StatementRows) (s : Statement (ℕ × ℕ)) (keeps : Keeps before s) (room : Bool) (told : after.few ≡ (room && before.few)) where
-  pub lower_more : (t : Product ℕ Week) → until_lower before.part ≡ true → after.part ≡ Lower → room ≡ ltb (length (row before.lower)) 32 → row after.lower ≡ take 32 (row before.lower ++ t ∷ []) → after.upper ≡ before.upper → after.counts ≡ before.counts → Takes More before after s (a_lower (time_value t))
-  lower_more t may part had pushed upper counts =
-      let a = leb (length s.lower) 32 in
-      let b = leb (length s.upper) 32 in
-      let c = leb (length s.counts) 256 in
-      let more = fits_more time_value 32 (row before.lower) s.lower (time_value t) a room keeps.lower refl had in
-      let next : Statement (ℕ × ℕ) = record { lower = s.lower ++ time_value t ∷ []; upper = s.upper; counts = s.counts } in
-      (next, cond-true (until_lower before.part) (goes_on (in_statement Lower next)) stops may ∙ ap (λ p. goes_on (in_statement p next)) (sym part), record { lower = front_more time_value 32 (row before.lower) (row after.lower) s.lower t keeps.lower pushed; upper = ap (λ r. map time_value (row r)) upper ∙ keeps.upper; counts = ap (λ r. map (count_of time_value) (row r)) counts ∙ keeps.counts; few = told ∙ ap (λ f. room && f) keeps.few ∙ first_of room a b c ∙ ap (λ v. v && (b && c)) more })
+second_of : (r a b c : Bool) → ((a && (b && c)) && r) ≡ (a && ((b && r) && c))
+second_of true true true c = and-true c
+second_of false true true c = and-false c
+second_of r true false c = refl
+second_of r false b c = refl
 
-  pub upper_more : (t : Product ℕ Week) → until_upper before.part ≡ true → after.part ≡ Upper → room ≡ ltb (length (row before.upper)) 32 → row after.upper ≡ take 32 (row before.upper ++ t ∷ []) → after.lower ≡ before.lower → after.counts ≡ before.counts → Takes More before after s (an_upper (time_value t))
-  upper_more t may part had pushed lower counts =
-      let a = leb (length s.lower) 32 in
-      let b = leb (length s.upper) 32 in
-      let c = leb (length s.counts) 256 in
-      let more = fits_more time_value 32 (row before.upper) s.upper (time_value t) b room keeps.upper refl had in
-      let next : Statement (ℕ × ℕ) = record { lower = s.lower; upper = s.upper ++ time_value t ∷ []; counts = s.counts } in
-      (next, cond-true (until_upper before.part) (goes_on (in_statement Upper next)) stops may ∙ ap (λ p. goes_on (in_statement p next)) (sym part), record { lower = ap (λ r. map time_value (row r)) lower ∙ keeps.lower; upper = front_more time_value 32 (row before.upper) (row after.upper) s.upper t keeps.upper pushed; counts = ap (λ r. map (count_of time_value) (row r)) counts ∙ keeps.counts; few = told ∙ ap (λ f. room && f) keeps.few ∙ second_of room a b c ∙ ap (λ v. a && (v && c)) more })
+third_of : (r a b c : Bool) → ((a && (b && c)) && r) ≡ (a && (b && (c && r)))
+third_of r true true c = refl
+third_of r true false c = refl
+third_of r false b c = refl
 
-  pub count_more : (t : Product ℕ Week × ℕ) → after.part ≡ Counts → room ≡ ltb (length (row before.counts)) 256 → row after.counts ≡ take 256 (row before.counts ++ t ∷ []) → after.lower ≡ before.lower → after.upper ≡ before.upper → Takes More before after s (a_count (count_of time_value t))
-  count_more t part had pushed lower upper =
-      let a = leb (length s.lower) 32 in
-      let b = leb (length s.upper) 32 in
-      let c = leb (length s.counts) 256 in
-      let more = fits_more (count_of time_value) 256 (row before.counts) s.counts (count_of time_value t) c room keeps.counts refl had in
-      let next : Statement (ℕ × ℕ) = record { lower = s.lower; upper = s.upper; counts = s.counts ++ count_of time_value t ∷ [] } in
-      (next, ap (λ p. goes_on (in_statement p next)) (sym part), record { lower = ap (λ r. map time_value (row r)) lower ∙ keeps.lower; upper = ap (λ r. map time_value (row r)) upper ∙ keeps.upper; counts = front_more (count_of time_value) 256 (row before.counts) (row after.counts) s.counts t keeps.counts pushed; few = told ∙ ap (λ f. room && f) keeps.few ∙ third_of room a b c ∙ ap (λ v. a && (b && v)) more })
+module _ (rows : StoredProgress (Product ℕ Week)) (whole : Bool) (s : Statement (ℕ × ℕ)) (keeps : Keeps rows whole s) (told : Result Unit Refusal) (room : Bool) (took : room ≡ is_ok told) where
+  pub lower_more : (part : Part) (t : Product ℕ Week) (after : Row (Product ℕ Week) 32) → until_lower part ≡ true → Stores row (has_places 32) told rows.lower after (row rows.lower ++ t ∷ []) → (n : Statement (ℕ × ℕ)) × (step (in_statement part s) (a_lower (time_value t)) ≡ goes_on (in_statement part n)) × Keeps (record { lower = after; upper = rows.upper; counts = rows.counts }) (whole && room) n
+  lower_more Lower t after may stores =
+      let a = leb (length s.lower) statement_times in
+      let b = leb (length s.upper) statement_times in
+      let c = leb (length s.counts) statement_counts in
+      let more = pushed time_value 32 rows.lower after s.lower t told room a took keeps.lower refl stores in
+      (record { lower = s.lower ++ time_value t ∷ []; upper = s.upper; counts = s.counts }, refl, record { lower = more.0; upper = keeps.upper; counts = keeps.counts; fits = ap (λ w. w && room) keeps.fits ∙ first_of room a b c ∙ ap (λ v. v && (b && c)) more.1 })
+  lower_more Upper t after may stores = absurd (true≢false (sym may))
+  lower_more Counts t after may stores = absurd (true≢false (sym may))
+
+  pub upper_more : (part : Part) (t : Product ℕ Week) (after : Row (Product ℕ Week) 32) → until_upper part ≡ true → Stores row (has_places 32) told rows.upper after (row rows.upper ++ t ∷ []) → (n : Statement (ℕ × ℕ)) × (step (in_statement part s) (an_upper (time_value t)) ≡ goes_on (in_statement Upper n)) × Keeps (record { lower = rows.lower; upper = after; counts = rows.counts }) (whole && room) n
+  upper_more part t after may stores =
+      let a = leb (length s.lower) statement_times in
+      let b = leb (length s.upper) statement_times in
+      let c = leb (length s.counts) statement_counts in
+      let more = pushed time_value 32 rows.upper after s.upper t told room b took keeps.upper refl stores in
+      (record { lower = s.lower; upper = s.upper ++ time_value t ∷ []; counts = s.counts }, cond-true (until_upper part) _ _ may, record { lower = keeps.lower; upper = more.0; counts = keeps.counts; fits = ap (λ w. w && room) keeps.fits ∙ second_of room a b c ∙ ap (λ v. a && (v && c)) more.1 })
+
+  pub count_more : (part : Part) (t : Product ℕ Week × ℕ) (after : Row (Product ℕ Week × ℕ) 256) → Stores row (has_places 256) told rows.counts after (row rows.counts ++ t ∷ []) → (n : Statement (ℕ × ℕ)) × (step (in_statement part s) (a_count (count_of time_value t)) ≡ goes_on (in_statement Counts n)) × Keeps (record { lower = rows.lower; upper = rows.upper; counts = after }) (whole && room) n
+  count_more part t after stores =
+      let a = leb (length s.lower) statement_times in
+      let b = leb (length s.upper) statement_times in
+      let c = leb (length s.counts) statement_counts in
+      let more = pushed (count_of time_value) 256 rows.counts after s.counts t told room c took keeps.counts refl stores in
+      (record { lower = s.lower; upper = s.upper; counts = s.counts ++ count_of time_value t ∷ [] }, refl, record { lower = keeps.lower; upper = keeps.upper; counts = more.0; fits = ap (λ w. w && room) keeps.fits ∙ third_of room a b c ∙ ap (λ v. a && (b && v)) more.1 })

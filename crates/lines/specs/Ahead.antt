@@ -1,17 +1,17 @@
 -- What is ahead of a reader of lines.
-use Rattle.std.specs.Prelude.{◌≡◌, ℕ, ◌<◌, Bool, List, [], map, length, take, drop, Result}
+use Rattle.std.specs.Prelude.{◌≡◌, ℕ, ◌<◌, List, map, length, drop, Some, None, Err, Option, Result}
 use Rattle.lattice.specs.declared.product.Product.{Product}
 use Rattle.timetable.specs.declared.week.Week.{Week}
 use Rattle.timetable.specs.declared.lesson.Lesson.{Lesson}
 use Rattle.timetable.specs.declared.amount.Amount.{Amount}
 use Rattle.timetable.specs.Lessons.{lesson_value, amount_value}
-use Rattle.capture.specs.Messages.{changes, short_changes}
-use Rattle.capture.specs.Sizes.{message_changes}
 use Rattle.capture.specs.Views.{change_of}
 use Rattle.capture.specs.Rows.{row}
 use Rattle.capture.specs.declared.row.Row.{Row}
-use Rattle.lines.specs.Format.{LessonChange, LessonMessage, Draft, outside, in_changes, with_message, says_from}
+use Rattle.lines.specs.Format.{LessonChange, LessonMessage, Draft, Next, outside, goes_on, completes, stops, step, closes, with_message, says_from}
+use Rattle.lines.specs.Said.{line_value}
 use Rattle.lines.specs.Values.{time_value}
+use Rattle.lines.specs.declared.line.Line.{Line}
 use Rattle.lines.specs.declared.line_reader.LineReader.{LineReader}
 
 -- the bytes behind the lines that were handed out
@@ -26,13 +26,19 @@ ahead d r = says_from d r.count (left r)
 abbrev pub changes_in : Row (Lesson × Product ℕ Week × Amount) 64 → List LessonChange
 changes_in r = map (change_of lesson_value time_value amount_value) (row r)
 
--- the row has the first of the changes cs, as many as it has places for
-abbrev pub Fronts : Row (Lesson × Product ℕ Week × Amount) 64 → List LessonChange → Type 0
-Fronts r cs = changes_in r ≡ take message_changes cs
+-- what the lines say, where the last one came to this
+abbrev pub follows : Next → LineReader → Result (List LessonMessage) ℕ
+follows stops r = Err r.count
+follows (goes_on d) r = ahead d r
+follows (completes m) r = with_message m (ahead outside r)
 
--- the rest of a message of changes was read: the row has the first of them, and it is told whether they are not too many
-pub record ReadChanges (before after : LineReader) (kept : Row (Lesson × Product ℕ Week × Amount) 64) (few : Bool) (cs : List LessonChange) : Type 0 where
-  pub said : ahead (in_changes []) before ≡ with_message (changes cs) (ahead outside after)
-  pub fronts : Fronts kept cs
-  pub fits : few ≡ short_changes cs
+-- a line that says x was handed out
+pub record HandsOut (x : Line) (before after : LineReader) : Type 0 where
+  pub said : (d : Draft) → ahead d before ≡ follows (step d (line_value x)) after
   pub on : length (left after) < length (left before)
+  pub few : after.count < after.at
+
+-- a line was handed out, or there was none left
+abbrev pub Hands : Option Line → LineReader → LineReader → Type 0
+Hands (Some x) before after = HandsOut x before after
+Hands None before after = (after ≡ before) × ((d : Draft) → ahead d before ≡ closes d before.count (left before))

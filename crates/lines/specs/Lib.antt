@@ -5,5 +5,4 @@ pub mod Values
 pub mod Said
 pub mod Format
 pub mod Ahead
-pub mod Statements
 pub mod Blocks

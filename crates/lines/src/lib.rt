@@ -7,8 +7,10 @@ mod fields;
 mod file;
 mod line;
 mod line_reader;
+mod malformed;
 mod numbers;
 mod part;
+mod said;
 mod statement;
 mod updates;
 
@@ -18,6 +20,7 @@ pub use file::check_lines;
 use lattice::Product;
 pub use line::{Line, read_line};
 pub use line_reader::LineReader;
+pub use malformed::Malformed;
 pub use numbers::number;
 use timetable::Week;
 

@@ -1,5 +1,5 @@
 use lattice::Timestamp;
-use lines::{LineReader, MessageBlock, Time, check_lines};
+use lines::{LineReader, Malformed, MessageBlock, Time, check_lines};
 use std::test::Fail;
 use timetable::{Amount, Lesson};
 
@@ -50,10 +50,7 @@ fn empty_block() -> Result<MessageBlock, Fail> {
 fn the_first_malformed_line_is_named(rt: HostRuntime) -> Result<(), Fail> {
     let mut block = empty_block()?;
     for (file, line) in MALFORMED {
-        match check_lines(file.as_bytes(), &mut block) {
-            Ok(_) => return Err(Fail::new("a malformed file was read")),
-            Err(n) => assert_eq!(rt; n, line),
-        }
+        assert_eq!(rt; check_lines(file.as_bytes(), &mut block), Err(Malformed { line }));
     }
     Ok(())
 }

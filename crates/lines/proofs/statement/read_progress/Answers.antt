@@ -1,49 +1,48 @@
-use Rattle.std.proofs.Common.{◌+◌, Err, sym, ap, ◌∙◌, subst, arith}
-use Rattle.capture.specs.Messages.{statement}
+use Rattle.std.proofs.Common.{sym, refl, ap, ◌∙◌, subst, arith}
 use Rattle.lines.specs.Said.{line_value}
-use Rattle.lines.specs.Format.{in_statement, no_statement}
-use Rattle.lines.specs.Ahead.{left, ahead}
-use Rattle.lines.specs.Statements.{Keeps}
-use Rattle.lines.proofs.Cutting.{cut_shorter}
-use Rattle.lines.proofs.Reading.{ahead_malformed, ahead_stops, ahead_goes_on, ahead_completes, no_line}
+use Rattle.lines.specs.Format.{in_statement, no_statement, step}
+use Rattle.lines.specs.Ahead.{follows, Hands}
+use Rattle.lines.proofs.Adding.{lower_more, upper_more, count_more}
 use Rattle.lines.proofs.statement.read_progress.Goals as goal
 
-pub loop-line-init : goal.loop-line-init
-loop-line-init c = (no_statement, ap (λ p. ahead (in_statement p no_statement) c.args.lines.now) (sym c.clear.ensures.part), c.clear.ensures.kept, c.requires, omega arith)
+pub loop-said-init : goal.loop-said-init
+loop-said-init c = (no_statement, refl, record { lower = ap (λ s. s.lower) c.clear.ensures; upper = ap (λ s. s.upper) c.clear.ensures; counts = ap (λ s. s.counts) c.clear.ensures; fits = refl }, c.requires, omega arith)
 
-pub loop-line-smaller : goal.loop-line-smaller
-loop-line-smaller c = cut_shorter (left c.loop-line.lines) (c.in-Some.line.now, left c.next_line.new.self) c.in-Some.ensures.line
+pub loop-said-preserved-then-until_lower : goal.loop-said-preserved-then-until_lower
+loop-said-preserved-then-until_lower c =
+    let inv = c.loop-said.invariant in
+    let after = c.next_said.new.lines in
+    let line = subst (λ o. Hands o c.loop-said.lines after) c.in-Some.is c.in_ok-said.ensures in
+    let more = lower_more c.loop-said.rows c.loop-said.whole inv.0 inv.2 c.push.result c.is_ok-whole.result c.is_ok-whole.ensures.value c.loop-said.part c.in-Lower.time c.push.new.self (sym c.until_lower.ensures ∙ c.if-until_lower.true) c.push.ensures in (
+      more.0,
+      inv.1 ∙ line.said (in_statement c.loop-said.part inv.0) ∙ ap (λ x. follows (step (in_statement c.loop-said.part inv.0) (line_value x)) after) c.in-Lower.is ∙ ap (λ n. follows n after) more.1,
+      more.2,
+      line.few,
+      omega (arith, inv.4, line.on),
+    )
 
-pub loop-line-preserved : goal.loop-line-preserved
-loop-line-preserved c =
-    let inv = c.loop-line.invariant in
-    let more = c.in-More.ensures inv.0 inv.2 in
-    (more.0, inv.1 ∙ ahead_goes_on (in_statement c.loop-line.rows.part inv.0) c.loop-line.lines c.next_line.new.self c.in-Some.line.now c.in-Some.ensures.line c.in-Some.ensures.count (line_value c.in-Some-read_line.said) _ c.in-Some-read_line.ensures more.1, more.2, omega (arith, inv.3, c.in-Some.ensures.count, c.in-Some.ensures.place), omega (arith, inv.4, cut_shorter (left c.loop-line.lines) (c.in-Some.line.now, left c.next_line.new.self) c.in-Some.ensures.line))
+pub loop-said-preserved-then-until_upper : goal.loop-said-preserved-then-until_upper
+loop-said-preserved-then-until_upper c =
+    let inv = c.loop-said.invariant in
+    let after = c.next_said.new.lines in
+    let line = subst (λ o. Hands o c.loop-said.lines after) c.in-Some.is c.in_ok-said.ensures in
+    let more = upper_more c.loop-said.rows c.loop-said.whole inv.0 inv.2 c.push-in-Upper.result c.is_ok-whole-in-Upper.result c.is_ok-whole-in-Upper.ensures.value c.loop-said.part c.in-Upper.time c.push-in-Upper.new.self (sym c.until_upper.ensures ∙ c.if-until_upper.true) c.push-in-Upper.ensures in (
+      more.0,
+      inv.1 ∙ line.said (in_statement c.loop-said.part inv.0) ∙ ap (λ x. follows (step (in_statement c.loop-said.part inv.0) (line_value x)) after) c.in-Upper.is ∙ ap (λ n. follows n after) more.1,
+      more.2,
+      line.few,
+      omega (arith, inv.4, line.on),
+    )
 
-pub returns-in-Done : goal.returns-in-Done
-returns-in-Done c =
-    let inv = c.loop-line.invariant in
-    let done = c.in-Done.ensures inv.0 inv.2 in
-    (inv.0, record { said = inv.1 ∙ ahead_completes (in_statement c.loop-line.rows.part inv.0) c.loop-line.lines c.next_line.new.self c.in-Some.line.now c.in-Some.ensures.line c.in-Some.ensures.count (line_value c.in-Some-read_line.said) (statement inv.0) c.in-Some-read_line.ensures done.0; keeps = subst (λ r. Keeps r inv.0) (sym done.1) inv.2; on = omega (arith, inv.4, cut_shorter (left c.loop-line.lines) (c.in-Some.line.now, left c.next_line.new.self) c.in-Some.ensures.line) })
-
-pub returns-in_default-read_line : goal.returns-in_default-read_line
-returns-in_default-read_line c =
-    c.loop-line.invariant.1
-    ∙ ahead_malformed (in_statement c.loop-line.rows.part c.loop-line.invariant.0) c.loop-line.lines c.next_line.new.self c.in-Some.line.now c.in-Some.ensures.line c.in-Some.ensures.count c.in_default-read_line.ensures
-    ∙ ap Err (sym c.count.ensures)
-
-pub returns-in-Misplaced : goal.returns-in-Misplaced
-returns-in-Misplaced c =
-    c.loop-line.invariant.1
-    ∙ ahead_stops (in_statement c.loop-line.rows.part c.loop-line.invariant.0) c.loop-line.lines c.next_line.new.self c.in-Some.line.now c.in-Some.ensures.line c.in-Some.ensures.count (line_value c.in-Some-read_line.said) c.in-Some-read_line.ensures (c.in-Misplaced.ensures c.loop-line.invariant.0 c.loop-line.invariant.2)
-    ∙ ap Err (sym c.count-in-Misplaced.ensures)
-
-pub overflow_add-result : goal.overflow_add-result
-overflow_add-result c =
-    let same = c.count-2.ensures ∙ ap (λ r. r.count) c.in_default.ensures.count in
-    omega (arith, same, c.loop-line.invariant.3)
-
-pub returns : goal.returns
-returns c =
-    let same = c.count-2.ensures ∙ ap (λ r. r.count) c.in_default.ensures.count in
-    c.loop-line.invariant.1 ∙ no_line (in_statement c.loop-line.rows.part c.loop-line.invariant.0) c.loop-line.lines.count (left c.loop-line.lines) c.in_default.ensures.line ∙ ap (λ n. Err (n + 1)) (sym same)
+pub loop-said-preserved : goal.loop-said-preserved
+loop-said-preserved c =
+    let inv = c.loop-said.invariant in
+    let after = c.next_said.new.lines in
+    let line = subst (λ o. Hands o c.loop-said.lines after) c.in-Some.is c.in_ok-said.ensures in
+    let more = count_more c.loop-said.rows c.loop-said.whole inv.0 inv.2 c.push-in-Count.result c.is_ok-whole-in-Count.result c.is_ok-whole-in-Count.ensures.value c.loop-said.part (c.in-Count.time, c.in-Count.n) c.push-in-Count.new.self c.push-in-Count.ensures in (
+      more.0,
+      inv.1 ∙ line.said (in_statement c.loop-said.part inv.0) ∙ ap (λ x. follows (step (in_statement c.loop-said.part inv.0) (line_value x)) after) c.in-Count.is ∙ ap (λ n. follows n after) more.1,
+      more.2,
+      line.few,
+      omega (arith, inv.4, line.on),
+    )
