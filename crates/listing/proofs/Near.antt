@@ -12,26 +12,20 @@ lines_few begun (b ∷ bs) =
       | false ↦ omega (arith, lines_few (begun ++ b ∷ []) bs)
     ]
 
-said_line : (n k : ℕ) → ◌≡◌ {A = Result (List LessonMessage) ℕ} (Err n) (Err k) → n ≡ k
-said_line n k e = cc
-
-said_none : (ms : List LessonMessage) (k : ℕ) → ◌≡◌ {A = Result (List LessonMessage) ℕ} (Ok ms) (Err k) → ⊥
-said_none ms k e = let z : ◌≡◌ {A = ℕ} 0 1 = cc in omega arith
-
 with_err : (m : LessonMessage) (r : Result (List LessonMessage) ℕ) (k : ℕ) → with_message m r ≡ Err k → r ≡ Err k
-with_err m (Ok ms) k e = absurd (said_none (m ∷ ms) k e)
+with_err m (Ok ms) k e = cc
 with_err m (Err n) k e = e
 
 closes_near : (d : Draft) (n : ℕ) (u : List ℕ) (k : ℕ) → closes d n u ≡ Err k → k ≤ n + 1
-closes_near outside n [] k e = absurd (said_none [] k e)
-closes_near outside n (b ∷ bs) k e = omega (arith, said_line (n + 1) k e)
-closes_near (in_changes cs) n u k e = omega (arith, said_line (n + 1) k e)
-closes_near (in_statement p s) n u k e = omega (arith, said_line (n + 1) k e)
+closes_near outside n [] k e = cc
+closes_near outside n (b ∷ bs) k e = let here : n + 1 ≡ k = cc in omega arith
+closes_near (in_changes cs) n u k e = let here : n + 1 ≡ k = cc in omega arith
+closes_near (in_statement p s) n u k e = let here : n + 1 ≡ k = cc in omega arith
 
 reads_near : (d : Draft) (n : ℕ) (ls : List (List ℕ)) (u : List ℕ) (k : ℕ) → reads d n ls u ≡ Err k → k ≤ n + length ls + 1
 reads_near d n [] u k e = omega (arith, closes_near d n u k e)
 reads_near d n (l ∷ ls) u k e =
-    let here : ◌≡◌ {A = Result (List LessonMessage) ℕ} (Err (n + 1)) (Err k) → k ≤ n + length (l ∷ ls) + 1 = λ h. omega (arith, said_line (n + 1) k h) in
+    let here : ◌≡◌ {A = Result (List LessonMessage) ℕ} (Err (n + 1)) (Err k) → k ≤ n + length (l ∷ ls) + 1 = λ h. let at : n + 1 ≡ k = cc in omega arith in
     let After : Next → Type 0 = λ y. ◌≡◌ {A = Result (List LessonMessage) ℕ} (elim y [ stops ↦ Err (n + 1) | goes_on e ↦ reads e (n + 1) ls u | completes m ↦ with_message m (reads outside (n + 1) ls u) ]) (Err k) → k ≤ n + length (l ∷ ls) + 1 in
     let next : (y : Next) → After y = λ y. elim y as After [
       | stops ↦ here

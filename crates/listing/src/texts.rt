@@ -1,5 +1,5 @@
 // The lines of a listing, put into lent bytes.
-ghost use Rattle.std.specs.Prelude.{◌≡◌, ◌≤◌, map, length, IfOk};
+ghost use Rattle.std.specs.Prelude.{map, length, IfOk};
 ghost use Rattle.lines.specs.Values.{time_value};
 ghost use Rattle.writing.specs.Puts.{change_value, Puts};
 ghost use Rattle.listing.specs.Listing.{interval_text, answer_text};
@@ -9,52 +9,49 @@ ghost use Rattle.listing.specs.Answers.{interval_of, answer_of, Within};
 use lines::Time;
 use questions::Refusal;
 use timetable::{Amount, Lesson};
-use writing::{put_changes, put_line, put_times};
+use writing::{Full, LineWriter};
 
 // An interval: I with both lengths, a P line for each change, an F line for each time.
 fn put_interval(
-    out: &mut [u8],
-    at: usize,
+    out: &mut LineWriter<'_>,
     changes: &[(Lesson, Time, Amount)],
     times: &[Time],
-) -> Option<usize>
-    ensures { Puts result out.old out.new at (interval_text (map change_value changes.now, map time_value times.now)) }
+) -> Result<(), Full>
+    ensures { Puts result out.old out.new (interval_text (map change_value changes.now, map time_value times.now)) }
 {
-    let first = put_line(out, at, b'I', &[changes.len() as u64, times.len() as u64])?;
-    let second = put_changes(out, first, b'P', changes)?;
-    put_times(out, second, b'F', times)
+    out.line(b'I', &[changes.len() as u64, times.len() as u64])?;
+    out.entries(b'P', changes)?;
+    out.entries(b'F', times)
 }
 
 // What an accepted feed told: an interval with its entries in the answer tables, or none.
 fn put_told(
-    out: &mut [u8],
-    at: usize,
+    out: &mut LineWriter<'_>,
     lens: Option<(usize, usize)>,
     published: &[(Lesson, Time, Amount)],
     told: &[Time],
-) -> Option<usize>
-    requires { (at ≤ length out.old) × (Within lens (length published.now) (length told.now)) }
-    ensures { Puts result out.old out.new at (answer_text (accepted (interval_of lens published.now told.now))) }
+) -> Result<(), Full>
+    requires { Within lens (length published.now) (length told.now) }
+    ensures { Puts result out.old out.new (answer_text (accepted (interval_of lens published.now told.now))) }
 {
     match lens {
-        Some((n, m)) => put_interval(out, at, &published[0..n], &told[0..m]),
-        None => Some(at),
+        Some((n, m)) => put_interval(out, &published[..n], &told[..m]),
+        None => Ok(()),
     }
 }
 
 // What feed answered.
 pub(crate) fn put_answer(
-    out: &mut [u8],
-    at: usize,
+    out: &mut LineWriter<'_>,
     answer: Result<Option<(usize, usize)>, Refusal>,
     published: &[(Lesson, Time, Amount)],
     told: &[Time],
-) -> Option<usize>
-    requires { (at ≤ length out.old) × (IfOk answer (λ lens. Within lens (length published.now) (length told.now))) }
-    ensures { Puts result out.old out.new at (answer_text (answer_of answer published.now told.now)) }
+) -> Result<(), Full>
+    requires { IfOk answer (λ lens. Within lens (length published.now) (length told.now)) }
+    ensures { Puts result out.old out.new (answer_text (answer_of answer published.now told.now)) }
 {
     match answer {
-        Ok(lens) => put_told(out, at, lens, published, told),
-        Err(refusal) => put_line(out, at, b'N', &[refusal.number() as u64]),
+        Ok(lens) => put_told(out, lens, published, told),
+        Err(refusal) => out.line(b'N', &[refusal.number() as u64]),
     }
 }

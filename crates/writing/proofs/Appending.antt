@@ -1,12 +1,13 @@
 -- A message behind a file that is well formed.
-use Rattle.std.proofs.Common.{◌≡◌, ℕ, ◌+◌, true, false, cond, eqb, List, [], ◌∷◌, ◌++◌, take, Some, None, Ok, Err, Option, Result, sym, refl, ap, ◌∙◌, arith}
+use Rattle.std.proofs.Common.{◌≡◌, ℕ, ◌+◌, true, false, cond, eqb, List, [], ◌∷◌, ◌++◌, Some, None, Ok, Err, Option, Result, sym, refl, ap, ◌∙◌}
 use Rattle.std.proofs.lemmas.List.{append-nil}
 use Rattle.lines.specs.Cuts.{split_from}
 use Rattle.lines.specs.Said.{Said, line_says}
 use Rattle.lines.specs.Format.{LessonMessage, Draft, outside, in_changes, in_statement, Next, goes_on, completes, stops, step, with_message, closes, reads, says_from, file_says}
 use Rattle.writing.specs.Writing.{lines_of, Formed}
-use Rattle.writing.specs.Puts.{Puts}
+use Rattle.writing.specs.Puts.{written, Puts}
 use Rattle.writing.specs.Files.{messages_of, messages_in, says_so, well_formed}
+use Rattle.writing.specs.declared.line_writer.LineWriter.{LineWriter}
 use Rattle.writing.proofs.RoundTrip.{file_back}
 
 -- messages before those that follow them
@@ -27,9 +28,6 @@ split_both begun (b ∷ bs) ys =
       | false ↦ split_both (begun ++ b ∷ []) bs ys
     ]
 
-never : (n : ℕ) (ms : List LessonMessage) → Err n ≡ Ok ms → ⊥
-never n ms e = let z : ◌≡◌ {A = ℕ} 0 1 = cc in omega arith
-
 -- lines that are well formed leave nothing open, so that lines behind them go on by themselves
 module _ (more : List (List ℕ)) (v : List ℕ) where
   abbrev On : Result (List LessonMessage) ℕ → List ℕ → List LessonMessage → Type 0
@@ -37,26 +35,26 @@ module _ (more : List (List ℕ)) (v : List ℕ) where
 
   closes_on : (d : Draft) (n : ℕ) (u : List ℕ) (ms : List LessonMessage) → closes d n u ≡ Ok ms → On (reads d n more v) u ms
   closes_on outside n [] ms e = let none : [] ≡ ms = cc in (refl, (n, ap (λ l. with_messages l (reads outside n more v)) none))
-  closes_on outside n (b ∷ bs) ms e = absurd (never (n + 1) ms e)
-  closes_on (in_changes cs) n u ms e = absurd (never (n + 1) ms e)
-  closes_on (in_statement p s) n u ms e = absurd (never (n + 1) ms e)
+  closes_on outside n (b ∷ bs) ms e = cc
+  closes_on (in_changes cs) n u ms e = cc
+  closes_on (in_statement p s) n u ms e = cc
 
   message_on : (m : LessonMessage) (r s : Result (List LessonMessage) ℕ) (u : List ℕ) (ms : List LessonMessage) → ((ns : List LessonMessage) → r ≡ Ok ns → On s u ns) → with_message m r ≡ Ok ms → On (with_message m s) u ms
   message_on m (Ok ns) s u ms on e = let is : m ∷ ns ≡ ms = cc in let rest = on ns refl in (rest.0, (rest.1.0, ap (with_message m) rest.1.1 ∙ ap (λ l. with_messages l (reads outside rest.1.0 more v)) is))
-  message_on m (Err n) s u ms on e = absurd (never n ms e)
+  message_on m (Err n) s u ms on e = cc
 
   reads_on : (d : Draft) (n : ℕ) (ls : List (List ℕ)) (u : List ℕ) (ms : List LessonMessage) → reads d n ls u ≡ Ok ms → On (reads d n (ls ++ more) v) u ms
   reads_on d n [] u ms e = closes_on d n u ms e
   reads_on d n (l ∷ ls) u ms e =
       let After : Next → Type 0 = λ y. ◌≡◌ {A = Result (List LessonMessage) ℕ} (elim y [ stops ↦ Err (n + 1) | goes_on e ↦ reads e (n + 1) ls u | completes m ↦ with_message m (reads outside (n + 1) ls u) ]) (Ok ms) → On (elim y [ stops ↦ Err (n + 1) | goes_on e ↦ reads e (n + 1) (ls ++ more) v | completes m ↦ with_message m (reads outside (n + 1) (ls ++ more) v) ]) u ms in
       let next : (y : Next) → After y = λ y. elim y as After [
-        | stops ↦ λ h. absurd (never (n + 1) ms h)
+        | stops ↦ λ h. cc
         | goes_on e ↦ λ h. reads_on e (n + 1) ls u ms h
         | completes m ↦ λ h. message_on m (reads outside (n + 1) ls u) (reads outside (n + 1) (ls ++ more) v) u ms (λ ns k. reads_on outside (n + 1) ls u ns k) h
       ] in
       let Line : Option Said → Type 0 = λ o. ◌≡◌ {A = Result (List LessonMessage) ℕ} (elim o [ None ↦ Err (n + 1) | Some x ↦ elim (step d x) [ stops ↦ Err (n + 1) | goes_on e ↦ reads e (n + 1) ls u | completes m ↦ with_message m (reads outside (n + 1) ls u) ] ]) (Ok ms) → On (elim o [ None ↦ Err (n + 1) | Some x ↦ elim (step d x) [ stops ↦ Err (n + 1) | goes_on e ↦ reads e (n + 1) (ls ++ more) v | completes m ↦ with_message m (reads outside (n + 1) (ls ++ more) v) ] ]) u ms in
       let line : (o : Option Said) → Line o = λ o. elim o as Line [
-        | None ↦ λ h. absurd (never (n + 1) ms h)
+        | None ↦ λ h. cc
         | Some x ↦ next (step d x)
       ] in
       line (line_says l) e
@@ -74,24 +72,13 @@ said_more bytes ms m e f =
     ∙ ap (with_messages ms) back
     ∙ with_all ms (m ∷ [])
 
--- what a file says, once it is known to say something
-pub in_file : (bytes : List ℕ) (ms : List LessonMessage) → file_says bytes ≡ Ok ms → messages_in bytes ≡ ms
-in_file bytes ms e = ap messages_of e
-
-pub well_formed_so : (bytes : List ℕ) (ms : List LessonMessage) → file_says bytes ≡ Ok ms → well_formed bytes ≡ true
-well_formed_so bytes ms e = ap says_so e
-
 says_back : (r : Result (List LessonMessage) ℕ) → says_so r ≡ true → r ≡ Ok (messages_of r)
 says_back (Ok ms) e = refl
-says_back (Err n) e = let z : ◌≡◌ {A = ℕ} 0 1 = cc in absurd (omega arith)
+says_back (Err n) e = cc
 
 pub file_in : (bytes : List ℕ) → well_formed bytes ≡ true → file_says bytes ≡ Ok (messages_in bytes)
 file_in bytes e = says_back (file_says bytes) e
 
--- bytes that hold a file and a message behind it
-pub taken_more : (before after : List ℕ) (m : LessonMessage) → well_formed before ≡ true → Formed m → after ≡ before ++ lines_of m → file_says after ≡ Ok (messages_in before ++ m ∷ [])
-taken_more before after m w f is = ap file_says is ∙ said_more before (messages_in before) m (file_in before w) f
-
--- a message was put behind a file
-pub posted : (before after : List ℕ) (len end : ℕ) (m : LessonMessage) → well_formed (take len before) ≡ true → Formed m → Puts (Some end) before after len (lines_of m) → file_says (take end after) ≡ Ok (messages_in (take len before) ++ m ∷ [])
-posted before after len end m w f put = taken_more (take len before) (take end after) m w f put.3
+-- a message was written behind a file
+pub posted : {x : Unit {0}} (before after : LineWriter) (m : LessonMessage) → well_formed (written before) ≡ true → Formed m → Puts (Ok x) before after (lines_of m) → file_says (written after) ≡ Ok (messages_in (written before) ++ m ∷ [])
+posted before after m w f put = ap file_says put.put.1 ∙ said_more (written before) (messages_in (written before)) m (file_in (written before) w) f

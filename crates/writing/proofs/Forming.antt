@@ -1,6 +1,7 @@
 -- What stored values read as has its form.
-use Rattle.std.proofs.Common.{◌≡◌, ℕ, ◌≤◌, Bool, true, false, cond, ◌&&◌, List, [], ◌∷◌, map, negsuc, refl}
+use Rattle.std.proofs.Common.{◌≡◌, ℕ, ◌≤◌, Bool, true, ◌&&◌, List, map, negsuc, refl, arith}
 use Rattle.std.specs.List.{AllByRecursion}
+use Rattle.std.proofs.ByRecursion.{All-map, All-weaker}
 use Rattle.std.proofs.lemmas.Bool.{and_from}
 use Rattle.lattice.specs.declared.product.Product.{Product}
 use Rattle.timetable.specs.declared.week.Week.{Week}
@@ -17,9 +18,7 @@ use Rattle.lines.specs.Values.{time_value}
 use Rattle.writing.specs.Writing.{FormedTime, FormedChange, FormedCount, Formed, FitsTypes}
 
 keeps_form : {A : Type 0} (form : A → Bool) (least x : A) → form least ≡ true → form (reads_as form least x) ≡ true
-keeps_form form least x e =
-    let case : (b : Bool) → form x ≡ b → form (cond b x least) ≡ true = λ b. elim b as (λ b. form x ≡ b → form (cond b x least) ≡ true) [ true ↦ λ h. h | false ↦ λ h. e ] in
-    case (form x) refl
+keeps_form form least x e = grind arith
 
 zero_is_week : is_week 0 ≡ true
 unfolding is_week
@@ -41,8 +40,7 @@ pub formed_count : (c : Product ℕ Week × ℕ) → c.0.outer ≤ most → c.1 
 formed_count c h k = (formed_time c.0 h, k)
 
 all_map : {X Y : Type 0} (f : X → Y) (P : X → Type 0) (Q : Y → Type 0) → ((x : X) → P x → Q (f x)) → (xs : List X) → AllByRecursion P xs → AllByRecursion Q (map f xs)
-all_map f P Q g [] h = tt
-all_map f P Q g (x ∷ xs) h = (g x h.0, all_map f P Q g xs h.1)
+all_map f P Q g xs h = All-map Q f xs (All-weaker P (λ x. Q (f x)) g xs h)
 
 formed_view : (v : View Lesson (Product ℕ Week) Amount) → FitsTypes v → Formed (message_of lesson_value time_value amount_value v)
 formed_view (Updates cs) h = all_map (change_of lesson_value time_value amount_value) (λ c. c.1.outer ≤ most) FormedChange formed_change cs.now h

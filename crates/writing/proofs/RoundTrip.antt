@@ -1,7 +1,8 @@
 -- Messages that are written as lines read back.
-use Rattle.std.proofs.Common.{◌≡◌, ℕ, suc, ◌+◌, ◌≤◌, true, leb, List, [], ◌∷◌, ◌++◌, ℤ, pos, negsuc, Some, Ok, decimal, sym, refl, ap, ◌∙◌, append_assoc, arith}
+use Rattle.std.proofs.Common.{◌≡◌, ℕ, suc, ◌+◌, ◌≤◌, true, false, eqb, leb, List, [], ◌∷◌, ◌++◌, ℤ, pos, negsuc, Some, Ok, decimal, sym, refl, ap, ◌∙◌, append_assoc, arith}
 use lib.Signed.{mag}
 use Rattle.std.specs.List.{flat_map, AllByRecursion}
+use Rattle.std.proofs.ByRecursion.{All-append}
 use Rattle.std.specs.Fmt.{signed_decimal}
 use Rattle.std.proofs.lemmas.List.{append-nil}
 use Rattle.std.proofs.lemmas.Bool.{cond-true, le-leb, ne_eqb}
@@ -18,7 +19,7 @@ use Rattle.writing.specs.Writing.{number_before, time_before, lesson_before, lin
 use Rattle.lines.specs.declared.part.Part.{Part}
 use Rattle.lines.specs.declared.part.Part.TheVariants.{Lower, Upper, Counts}
 use Rattle.lines.proofs.Fielding.{then_some}
-use Rattle.writing.proofs.Spelling.{Free, free_append, cut_free, free_decimal, number_decimal, number_then_decimal, signed_back}
+use Rattle.writing.proofs.Spelling.{Free, cut_free, free_decimal, number_decimal, number_then_decimal, signed_back}
 use Rattle.lines.proofs.Reading.{line_goes_on, line_completes}
 
 week_small : (n : ℕ) → is_week n ≡ true → n ≤ 219999
@@ -78,7 +79,7 @@ count_says c f =
 
 -- no line has byte 10 within
 free_number : (n : ℕ) (rest : List ℕ) → n ≤ most → Free 10 rest → Free 10 (number_before n rest)
-free_number n rest h f = (ne_eqb 9 10 (λ e. omega arith), free_append 10 (decimal n) rest (free_decimal 10 n (omega arith) (omega arith)) f)
+free_number n rest h f = (ne_eqb 9 10 (λ e. omega arith), All-append (λ b. eqb b 10 ≡ false) (decimal n) rest (free_decimal 10 n (omega arith) (omega arith)) f)
 
 free_time : (t : ℕ × ℕ) (rest : List ℕ) → FormedTime t → Free 10 rest → Free 10 (time_before t rest)
 free_time t rest h f = free_number t.0 (number_before t.1 rest) h.0 (free_number t.1 rest (omega (arith, week_small t.1 h.1)) f)

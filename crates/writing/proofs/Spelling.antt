@@ -2,6 +2,8 @@
 use Rattle.std.proofs.Common.{◌≡◌, ℕ, suc, ◌+◌, ◌*◌, ◌/◌, ◌%◌, ◌^◌, ◌<◌, ◌≤◌, Bool, true, false, cond, not, ◌&&◌, eqb, leb, List, [], ◌∷◌, ◌++◌, get_or, ℤ, pos, negsuc, neg_ℤ, Some, None, decimal, sym, refl, ap, ◌∙◌, subst, arith}
 use lib.Signed.{mag}
 use Rattle.std.specs.Fmt.{signed_decimal}
+use Rattle.std.specs.List.{AllByRecursion}
+use Rattle.std.proofs.ByRecursion.{All-append}
 use Rattle.std.proofs.lemmas.Fmt.{decimal_by_steps, decimal_digit, first_decimal}
 use Rattle.std.proofs.lemmas.Bool.{cond-true, cond-false, and_from, ne_eqb, le-leb}
 use Rattle.std.proofs.lemmas.Bool.Decides.{nat_tests}
@@ -12,12 +14,7 @@ use Rattle.lines.proofs.Fielding.{then_some}
 
 -- the byte is not among the bytes
 abbrev pub Free : ℕ → List ℕ → Type 0
-Free m [] = Unit {0}
-Free m (b ∷ bs) = (eqb b m ≡ false) × Free m bs
-
-pub free_append : (m : ℕ) (xs ys : List ℕ) → Free m xs → Free m ys → Free m (xs ++ ys)
-free_append m [] ys p q = q
-free_append m (x ∷ xs) ys p q = (p.0, free_append m xs ys p.1 q)
+Free m bs = AllByRecursion (λ b. eqb b m ≡ false) bs
 
 -- bytes without the mark are cut off whole
 pub cut_free : (m : ℕ) (xs ys : List ℕ) → Free m xs → cut_at m (xs ++ m ∷ ys) ≡ Some (xs, ys)
@@ -27,7 +24,7 @@ cut_free m (x ∷ xs) ys p = cond-false (eqb x m) _ _ p.0 ∙ ap (with_byte x) (
 -- digits are no tabs, no line ends and no minus
 pub free_decimal : (m n : ℕ) → m < 48 → n < 2 ^ 64 → Free m (decimal n)
 free_decimal m n low h =
-    decimal_by_steps (λ k ds. Free m ds) (λ k small. (ne_eqb (48 + k) m (λ e. omega arith), tt)) (λ k ds large p. free_append m ds ((48 + k % 10) ∷ []) p (ne_eqb (48 + k % 10) m (λ e. omega arith), tt)) n h
+    decimal_by_steps (λ k ds. Free m ds) (λ k small. (ne_eqb (48 + k) m (λ e. omega arith), tt)) (λ k ds large p. All-append (λ b. eqb b m ≡ false) ds ((48 + k % 10) ∷ []) p (ne_eqb (48 + k % 10) m (λ e. omega arith), tt)) n h
 
 digits_push : (n : ℕ) (ds : List ℕ) (d : ℕ) → digits_from n (ds ++ d ∷ []) ≡ then (digits_from n ds) (λ m. digits_from m (d ∷ []))
 digits_push n [] d = refl
@@ -61,7 +58,7 @@ pub number_then_decimal : (n : ℕ) (rest : List ℕ) → n ≤ most → number_
 number_then_decimal n rest le = then_some (cut_at 9 (decimal n ++ 9 ∷ rest)) (decimal n, rest) _ (cut_free 9 (decimal n) rest (free_decimal 9 n (omega arith) (omega arith))) ∙ then_some (number_in (decimal n)) n _ (number_decimal n le)
 
 no_minus : (ds : List ℕ) (n : ℕ) → Free 45 ds → number_in ds ≡ Some n → signed_in ds ≡ Some (pos n)
-no_minus [] n f e = let z : ◌≡◌ {A = ℕ} 0 1 = cc in absurd (omega arith)
+no_minus [] n f e = cc
 no_minus (b ∷ bs) n f e = cond-false (eqb b 45) _ _ f.0 ∙ then_some (number_in (b ∷ bs)) n _ e
 
 -- a signed number that is written reads back

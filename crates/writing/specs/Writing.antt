@@ -32,21 +32,25 @@ lesson_before l rest = number_before l.0 (number_before l.1 (number_before l.2 r
 abbrev pub line_of : List ℕ → List ℕ
 line_of bs = bs ++ 10 ∷ []
 
--- U, and a change
-abbrev pub change_text : LessonChange → List ℕ
-change_text c = 85 ∷ time_before c.time (lesson_before c.what (9 ∷ signed_decimal c.amount))
-
--- another letter, and a change
+-- a letter, and a change
 abbrev pub lettered_text : ℕ → LessonChange → List ℕ
 lettered_text letter c = letter ∷ time_before c.time (lesson_before c.what (9 ∷ signed_decimal c.amount))
+
+-- U, and a change
+abbrev pub change_text : LessonChange → List ℕ
+change_text c = lettered_text 85 c
 
 -- L or H, and a time
 abbrev pub time_text : ℕ → (ℕ × ℕ) → List ℕ
 time_text letter t = letter ∷ time_before t []
 
+-- a letter, and a count
+abbrev pub lettered_count : ℕ → ((ℕ × ℕ) × ℕ) → List ℕ
+lettered_count letter c = letter ∷ time_before c.0 (number_before c.1 [])
+
 -- C, and a count
 abbrev pub count_text : ((ℕ × ℕ) × ℕ) → List ℕ
-count_text c = 67 ∷ time_before c.0 (number_before c.1 [])
+count_text c = lettered_count 67 c
 
 -- a message as lines: R or S, its lists in their order, and E
 abbrev pub lines_of : LessonMessage → List ℕ
