@@ -25,6 +25,8 @@ fn put_interval(
 }
 
 // What an accepted feed told: an interval with its entries in the answer tables, or none.
+//
+// The lengths stand beside the tables, since feed answers them so (a rule of the project).
 fn put_told(
     out: &mut LineWriter<'_>,
     lens: Option<(usize, usize)>,
@@ -40,7 +42,7 @@ fn put_told(
     }
 }
 
-// What feed answered.
+// What feed answered, with the tables that it filled beside it (a rule of the project).
 pub(crate) fn put_answer(
     out: &mut LineWriter<'_>,
     answer: Result<Option<(usize, usize)>, Refusal>,

@@ -50,7 +50,10 @@ fn empty_block() -> Result<MessageBlock, Fail> {
 fn the_first_malformed_line_is_named(rt: HostRuntime) -> Result<(), Fail> {
     let mut block = empty_block()?;
     for (file, line) in MALFORMED {
-        assert_eq!(rt; check_lines(file.as_bytes(), &mut block), Err(Malformed { line }));
+        assert_eq!(rt;
+            check_lines(file.as_bytes(), &mut block),
+            Err(Malformed { line })
+        );
     }
     Ok(())
 }

@@ -7,4 +7,6 @@ mod files;
 #[cfg(test)]
 mod frontiers_and_counts;
 #[cfg(test)]
+mod lines_written;
+#[cfg(test)]
 mod weeks_and_lessons;

@@ -1,4 +1,6 @@
 // The error of a writer whose bytes are full.
+ghost use Rattle.std.specs.Prelude.{Some, codes};
+
 use std::error::Error;
 use std::fmt;
 
@@ -7,8 +9,10 @@ use std::fmt;
 pub struct Full;
 
 impl fmt::Display for Full {
+    ghost output = { λ _. Some (codes "the text does not fit") };
+
     fn fmt<W: fmt::Write>(&self, f: &mut fmt::Formatter<W>) -> fmt::Result {
-        write!(f, "the text does not fit")
+        f.write_str("the text does not fit")
     }
 }
 

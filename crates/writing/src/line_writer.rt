@@ -11,6 +11,8 @@ pub(crate) const LINE_END: u8 = b'\n';
 
 // A lent block of bytes in which each text is written behind the one before.  After a text that
 // did not fit, a part of it may stand behind what was written before.
+//
+// No `Vec`: a post allocates nothing (a rule of the project).
 #[derive(Drop)]
 pub struct LineWriter<'a> {
     // what is written stands first
@@ -100,7 +102,7 @@ impl<'a> LineWriter<'a> {
         Ok(())
     }
 
-    // A line of a letter and numbers.
+    // A line of a letter and numbers.  The letter is a byte that is written, and nothing asks which.
     pub fn line(&mut self, letter: u8, numbers: &[u64]) -> Result<(), Full>
         ensures { Puts result self.old self.new (numbers_line letter numbers.now) }
     {
