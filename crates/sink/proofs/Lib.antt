@@ -3,6 +3,6 @@ pub mod Queues
 pub mod Additions
 pub mod Parting
 pub mod Sizes
+pub mod Pumping
 pub mod Recording
 pub mod Closing
-pub mod Pumping

@@ -1,16 +1,19 @@
 -- How a pump goes on from message to message.
-use Rattle.std.proofs.Common.{◌≡◌, ℕ, ◌+◌, ◌-◌, ◌<◌, ◌≤◌, Bool, true, false, not, leb, List, [], ◌∷◌, ◌++◌, map, length, get_or, take, drop, Some, None, Option, sym, refl, ap, subst, arith}
+use Rattle.std.proofs.Common.{◌≡◌, ℕ, ◌+◌, ◌-◌, ◌<◌, ◌≤◌, Bool, true, false, not, leb, List, [], ◌∷◌, ◌++◌, map, length, get_or, take, drop, Some, None, Option, Ok, Err, Result, sym, refl, ap, subst, arith}
 use Rattle.std.proofs.lemmas.List.{drop_all}
 use Rattle.std.proofs.lemmas.Bool.{le-leb, lt-leb}
+use Rattle.std.proofs.Math.Bridge.{le_prop}
+use Rattle.questions.specs.declared.Refusal.{Refusal}
 use Rattle.questions.proofs.Asking.{ask_next, ask_here}
 use Rattle.frontier.specs.Tables.{in_use}
-use Rattle.frontier.proofs.Tables.{sub_zero}
 use Rattle.frontier.proofs.Walks.{next, walked}
 use Rattle.capture.specs.Sizes.{queue_messages}
 use Rattle.capture.specs.Answers.{refused, accepted}
 use Rattle.capture.specs.Messages.{Message}
 use Rattle.capture.specs.Posts.{Post, Pumped, empty, waits, takes, Pump, refuses, pumps}
-use Rattle.sink.specs.Pumps.{working, Left}
+use Rattle.sink.specs.declared.queue.Queue.{Queue}
+use Rattle.sink.specs.declared.sender.OpenSender.{OpenSender}
+use Rattle.sink.specs.Pumps.{working, Left, WhereRefused}
 
 module _ {D A R P S : Type 0} (o : Post D A R P) (reads : S → Message D A R) where
   -- what is left to offer comes to what all comes to
@@ -41,17 +44,10 @@ module _ {D A R P S : Type 0} (o : Post D A R P) (reads : S → Message D A R) w
 
   -- the messages that were not taken move up
   pub moved_up : (xs ys : List S) (len n : ℕ) (p q : P) (work : Bool) (wait : Option ℕ) → work ≡ working wait (o.committed q) → take (len - n) ys ≡ drop n (take len xs)
-      → Pumped o (map reads (take (len - 0) xs)) p (working wait (o.committed q)) wait (map reads (drop n (take (len - 0) xs))) q → Pumped o (in_use reads len xs) p work wait (in_use reads (len - n) ys) q
-  moved_up xs ys len n p q work wait w left h =
-      let part = subst (λ m. Pumped o (map reads (take m xs)) p (working wait (o.committed q)) wait (map reads (drop n (take m xs))) q) (sub_zero len) h in
-      let up = subst (λ ns. Pumped o (in_use reads len xs) p (working wait (o.committed q)) wait ns q) (ap (map reads) (sym left)) part in
-      subst (λ b. Pumped o (in_use reads len xs) p b wait (in_use reads (len - n) ys) q) (sym w) up
+      → Pumped o (in_use reads len xs) p (working wait (o.committed q)) wait (map reads (drop n (take len xs))) q → Pumped o (in_use reads len xs) p work wait (in_use reads (len - n) ys) q
+  moved_up xs ys len n p q work wait w left h = rw (w, left) h
 
 -- work remains exactly where messages are left or the post is not done
-pub left_within : (wait : Option ℕ) (n len : ℕ) → Left wait n len → n ≤ len
-left_within (Some w) n len h = omega arith
-left_within None n len h = omega arith
-
 pub works_on : (wait : Option ℕ) (n len : ℕ) (b : Bool) → Left wait n len → 0 < len - n → true ≡ working wait b
 works_on (Some w) n len b h more = refl
 works_on None n len b h more = absurd (omega arith)
@@ -67,3 +63,12 @@ module _ {D A R P : Type 0} (o : Post D A R P) (n : ℕ) where
 
   pub pumped_long : (ms ns : List (Message D A R)) (p q : P) (work : Bool) (wait : Option ℕ) → queue_messages ≤ n → Pumped o ms p work wait ns q → Pump o (leb queue_messages n) ms p (accepted (work, wait)) ns q
   pumped_long ms ns p q work wait h pumped = pumps (ask_next (leb queue_messages n) 1 [] (le-leb queue_messages n h)) pumped
+
+-- what a refusal leaves, said of more
+pub where_refused : {X : Type 0} {P Q : Type 0} (r : Result X Refusal) → (P → Q) → WhereRefused r P → WhereRefused r Q
+where_refused (Ok x) f h = h
+where_refused (Err e) f h = f h
+
+-- a sender is the same where its numbers and queues are
+pub same_sender : (f c : ℕ) (u u' p p' : Queue) (a a' : f ≤ 32) (b b' : c ≤ 256) → u ≡ u' → p ≡ p' → ◌≡◌ {A = OpenSender} (record { frontier = f; counts = c; updates = u; progress = p; few_times = a; few_counts = b }) (record { frontier = f; counts = c; updates = u'; progress = p'; few_times = a'; few_counts = b' })
+same_sender f c u u' p p' a a' b b' e h = λ i. record { frontier = f; counts = c; updates = e i; progress = h i; few_times = le_prop a a' i; few_counts = le_prop b b' i }

@@ -5,11 +5,12 @@ use Rattle.questions.specs.Questions.{number_of, first_no}
 use Rattle.questions.specs.Answers.{Answered}
 use Rattle.frontier.specs.Tables.{in_use, counted, frontier_size}
 use Rattle.capture.specs.Kinds.{Kinds}
-use Rattle.capture.specs.Sizes.{sender_counts, reader_counts, statement_counts, queue_messages}
+use Rattle.capture.specs.Sizes.{reader_counts, statement_counts, queue_messages}
 use Rattle.capture.specs.Messages.{Change}
 use Rattle.capture.specs.Sender.{Sender, record_asks, record_changes, close_asks, close, finish_asks, finish}
 use Rattle.capture.specs.declared.stored.StoredMessage.{StoredMessage}
 use Rattle.capture.specs.Stored.{queued}
+use Rattle.sink.specs.Tables.{lent_tables}
 use Rattle.sink.specs.declared.sender.OpenSender.{OpenSender}
 use Rattle.sink.specs.declared.sender.FinishedSender.{FinishedSender}
 
@@ -17,27 +18,27 @@ module _ {X D Y A Z R : Type 0} (data_value : X → D) (time_value : Y → A) (a
   -- the sender that these tables hold: frontier, counts, queue of changes, queue of statements
   abbrev pub sender_of : OpenSender → List Y → List (Y × ℤ) → List (StoredMessage X Y Z) → List (StoredMessage X Y Z) → Sender D A R
   sender_of s frontier counts updates progress =
-      record { frontier = in_use time_value s.frontier frontier; counts = in_use (counted time_value) s.counts counts; queued_changes = queued data_value time_value amount_value s.updates updates; queued_statements = queued data_value time_value amount_value s.progress progress }
+      record { frontier = in_use time_value s.frontier frontier; counts = in_use (counted time_value) s.counts counts; queued_changes = queued data_value time_value amount_value s.updates.len updates; queued_statements = queued data_value time_value amount_value s.progress.len progress }
 
   -- the finished sender that these queues hold: its frontier is empty, and nothing is left to announce
   abbrev pub finished_of : FinishedSender → List (StoredMessage X Y Z) → List (StoredMessage X Y Z) → Sender D A R
-  finished_of s updates progress = record { frontier = []; counts = []; queued_changes = queued data_value time_value amount_value s.updates updates; queued_statements = queued data_value time_value amount_value s.progress progress }
+  finished_of s updates progress = record { frontier = []; counts = []; queued_changes = queued data_value time_value amount_value s.updates.len updates; queued_statements = queued data_value time_value amount_value s.progress.len progress }
 
--- whether the tables of a new sender have their sizes, by how long they are: frontier, counts, queue of changes, queue of statements
+-- whether the tables of a new sender have their sizes: frontier, counts, queue of changes, queue of statements
 abbrev pub open_tables : ℕ → ℕ → ℕ → ℕ → Bool
-open_tables frontier counts updates progress = nat_le frontier_size frontier && (nat_le sender_counts counts && (nat_le queue_messages updates && nat_le queue_messages progress))
+open_tables frontier counts updates progress = lent_tables frontier counts updates && nat_le queue_messages progress
 
--- whether the tables of a record have their sizes, by how long they are: frontier, counts, queue of changes, scratch counts
+-- whether the tables of a record have their sizes: frontier, counts, queue of changes, scratch counts
 abbrev pub record_tables : ℕ → ℕ → ℕ → ℕ → Bool
-record_tables frontier counts queue scratch = nat_le frontier_size frontier && (nat_le sender_counts counts && (nat_le queue_messages queue && nat_le reader_counts scratch))
+record_tables frontier counts queue scratch = lent_tables frontier counts queue && nat_le reader_counts scratch
 
 -- whether the tables of a finish have their sizes: frontier, counts, queue of statements, scratch for the announced counts
 abbrev pub finish_tables : ℕ → ℕ → ℕ → ℕ → Bool
-finish_tables frontier counts queue announced = nat_le frontier_size frontier && (nat_le sender_counts counts && (nat_le queue_messages queue && nat_le statement_counts announced))
+finish_tables frontier counts queue announced = lent_tables frontier counts queue && nat_le statement_counts announced
 
 -- whether the tables of a close have their sizes: frontier, counts, queue of statements, scratch frontier, scratch for the announced counts
 abbrev pub close_tables : ℕ → ℕ → ℕ → ℕ → ℕ → Bool
-close_tables frontier counts queue upper announced = nat_le frontier_size frontier && (nat_le sender_counts counts && (nat_le queue_messages queue && (nat_le frontier_size upper && nat_le statement_counts announced)))
+close_tables frontier counts queue upper announced = lent_tables frontier counts queue && (nat_le frontier_size upper && nat_le statement_counts announced)
 
 -- `Table` is what a call is not handed: of a record the queue of statements, of a close or a finish the queue of changes.
 -- Whatever it holds, the call answers and leaves what the meaning lays down, of the state before to the state after

@@ -8,7 +8,7 @@ ghost use Rattle.capture.specs.Statements.{small};
 ghost use Rattle.capture.specs.Sender.{told, announced, retained, some};
 ghost use Rattle.capture.specs.Views.{count_of};
 
-use crate::counting::LARGEST_COUNT;
+use crate::counting::is_small;
 use frontier::{antichain_less_equal, is_beyond};
 use lattice::PartialOrder;
 use questions::Refusal;
@@ -17,26 +17,19 @@ use questions::Refusal;
 pub(crate) fn advances<T: PartialOrder>(frontier: &[T], list: &[T]) -> bool
     ensures { result ≡ (some (map T.value list.now) && (leq T.below (map T.value frontier.now) (map T.value list.now) && not (leq T.below (map T.value list.now) (map T.value frontier.now)))) }
 {
-    if list.len() == 0 {
-        return false;
-    }
-    if !antichain_less_equal(frontier, list) {
-        return false;
-    }
-    !antichain_less_equal(list, frontier)
+    !list.is_empty()
+        && antichain_less_equal(frontier, list)
+        && !antichain_less_equal(list, frontier)
 }
 
 // A count as it is announced, a negative one as 0, where it is not too large.
 fn tell(count: i64) -> Result<u32, Refusal>
     ensures { Answered result ((nat_le (told count) largest_count, 5) ∷ []) (λ n. n ≡ told count) (Unit {0}) }
 {
-    if count > LARGEST_COUNT {
+    if !is_small(count) {
         return Err(Refusal::LargeCount);
     }
-    if count < 0 {
-        return Ok(0);
-    }
-    Ok(count as u32)
+    Ok(count.max(0) as u32)
 }
 
 // Writes the counts that a statement with this upper list announces, where none is too large, and

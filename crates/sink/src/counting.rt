@@ -8,6 +8,7 @@ ghost use Rattle.capture.specs.Sizes.{largest_count, sender_counts, message_chan
 ghost use Rattle.capture.specs.Sender.{told, count_at, raised};
 ghost use Rattle.capture.specs.Views.{change_of};
 
+use frontier::steps::copy_entries;
 use frontier::{is_beyond, update};
 use lattice::{PartialOrder, Same, same_time};
 
@@ -30,12 +31,8 @@ pub(crate) fn is_small(count: i64) -> bool
 fn count_at<T: PartialOrder>(table: &[(T, i64)], time: &T) -> i64
     ensures { result ≡ count_at T.below (map (counted T.value) table.now) (T.value time.now) }
 {
-    for e in table {
-        if same_time(&e.0, time) {
-            return e.1;
-        }
-    }
-    0
+    let entry = table.iter().find(|e| same_time(&e.0, time));
+    entry.map_or(0, |e| e.1)
 }
 
 // Whether the time of every change is beyond the list, as question 3 asks.
@@ -45,12 +42,7 @@ pub(crate) fn all_beyond<D: Same, T: PartialOrder, R: Same>(
 ) -> bool
     ensures { result ≡ list_all (λ c. beyond T.PartialOrder.below (map T.PartialOrder.value list.now) c.time) (map (change_of D.Same.value T.PartialOrder.value R.Same.value) changes.now) }
 {
-    for c in changes {
-        if !is_beyond(list, &c.1) {
-            return false;
-        }
-    }
-    true
+    changes.iter().all(|c| is_beyond(list, &c.1))
 }
 
 // Whether the count of each change's time is not too large, as question 5 asks.
@@ -60,37 +52,30 @@ pub(crate) fn all_small<D: Same, T: PartialOrder, R: Same>(
 ) -> bool
     ensures { result ≡ list_all (λ c. nat_le (told (count_at T.PartialOrder.below (map (counted T.PartialOrder.value) table.now) c.time)) largest_count) (map (change_of D.Same.value T.PartialOrder.value R.Same.value) changes.now) }
 {
-    for c in changes {
-        let count = count_at(table, &c.1);
-        if !is_small(count) {
-            return false;
-        }
-    }
-    true
+    changes.iter().all(|c| is_small(count_at(table, &c.1)))
 }
 
-// Counts each change at its time, in a scratch table with `len` entries in use.  Tells how many
-// entries there are then, and whether there were never more than a sender may have.
+// Copies the first `len` counts to a scratch table, and counts each change at its time there.  Tells
+// how many entries there are then, and how many there were at most on the way.
 pub(crate) fn count_changes<D: Same, T: PartialOrder + Copy, R: Same>(
-    table: &mut [(T, i64)],
+    counts: &[(T, i64)],
     len: usize,
+    scratch: &mut [(T, i64)],
     changes: &[(D, T, R)],
-) -> (usize, bool)
-    requires { (len ≤ sender_counts) × ((length changes.now ≤ message_changes) × (reader_counts ≤ length table.old)) }
-    ensures after { Holds (counted T.PartialOrder.value) result.0 table.new (added_all T.PartialOrder.below (in_use (counted T.PartialOrder.value) len table.old) (raised (map (change_of D.Same.value T.PartialOrder.value R.Same.value) changes.now))) }
-    ensures within { result.0 ≤ reader_counts }
-    ensures room { result.1 ≡ room T.PartialOrder.below sender_counts (in_use (counted T.PartialOrder.value) len table.old) (raised (map (change_of D.Same.value T.PartialOrder.value R.Same.value) changes.now)) }
+) -> (usize, usize)
+    requires counts { (len ≤ sender_counts) × (len ≤ length counts.now) }
+    requires scratch { reader_counts ≤ length scratch.old }
+    requires changes { length changes.now ≤ message_changes }
+    ensures after { Holds (counted T.PartialOrder.value) result.0 scratch.new (added_all T.PartialOrder.below (in_use (counted T.PartialOrder.value) len counts.now) (raised (map (change_of D.Same.value T.PartialOrder.value R.Same.value) changes.now))) }
+    ensures within { (result.0 ≤ result.1) × (result.0 ≤ reader_counts) }
+    ensures room { nat_le result.1 sender_counts ≡ room T.PartialOrder.below sender_counts (in_use (counted T.PartialOrder.value) len counts.now) (raised (map (change_of D.Same.value T.PartialOrder.value R.Same.value) changes.now)) }
 {
+    copy_entries(counts, scratch, len);
     let mut n = len;
-    let mut fits = true;
+    let mut most = len;
     for c in changes {
-        let Ok(m) = update(table, n, SCRATCH_COUNTS, c.1, 1) else {
-            unreachable()
-        };
-        n = m;
-        if n > SENDER_COUNTS {
-            fits = false;
-        }
+        n = update(scratch, n, SCRATCH_COUNTS, c.1, 1).unwrap();
+        most = most.max(n);
     }
-    (n, fits)
+    (n, most)
 }

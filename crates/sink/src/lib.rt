@@ -8,4 +8,5 @@ mod queue;
 mod sender;
 
 pub use counting::{LARGEST_COUNT, SCRATCH_COUNTS, SENDER_COUNTS};
-pub use sender::{FinishedSender, OpenSender, QUEUE_MESSAGES};
+pub use queue::QUEUE_MESSAGES;
+pub use sender::{FinishedSender, OpenSender};

@@ -1,7 +1,11 @@
 // The sender, open and finished: how much of each of its tables is in use.
 //
 // The tables themselves are handed to each call: a frontier, counts, and two queues of messages.
-ghost use Rattle.std.specs.Prelude.{◌≤◌};
+ghost use Rattle.std.specs.Prelude.{◌≡◌, ◌≤◌, length};
+ghost use Rattle.std.specs.Bool.{OnTrue};
+ghost use Rattle.frontier.specs.Tables.{frontier_size};
+ghost use Rattle.capture.specs.Sizes.{sender_counts, queue_messages};
+ghost use Rattle.sink.specs.Tables.{lent_tables};
 
 mod close;
 mod finish;
@@ -10,8 +14,9 @@ mod open;
 mod open_pumps;
 mod record;
 
-// The queue of changes, and that of statements, has at most so many messages.
-pub const QUEUE_MESSAGES: usize = 16;
+use crate::counting::SENDER_COUNTS;
+use crate::queue::{QUEUE_MESSAGES, Queue};
+use frontier::FRONTIER_SIZE;
 
 // A sender that records changes and closes rounds.
 #[derive(Drop)]
@@ -20,24 +25,30 @@ pub struct OpenSender {
     frontier: usize,
     // how many times have changes that are not announced yet
     counts: usize,
-    // how many messages of changes are queued
-    updates: usize,
-    // how many statements are queued
-    progress: usize,
+    // the messages of changes that are queued
+    updates: Queue,
+    // the statements that are queued
+    progress: Queue,
     ghost few_times: { frontier ≤ 32 },
     ghost few_counts: { counts ≤ 256 },
-    ghost few_updates: { updates ≤ 16 },
-    ghost few_progress: { progress ≤ 16 },
 }
 
 // A sender that closed the empty frontier: it has nothing more to say, and its queues are left to
 // be pumped.
 #[derive(Drop)]
 pub struct FinishedSender {
-    // how many messages of changes are queued
-    updates: usize,
-    // how many statements are queued
-    progress: usize,
-    ghost few_updates: { updates ≤ 16 },
-    ghost few_progress: { progress ≤ 16 },
+    // the messages of changes that are queued
+    updates: Queue,
+    // the statements that are queued
+    progress: Queue,
+}
+
+// Whether a frontier, counts and a queue have their sizes, as question 1 asks.
+fn are_sized<T, M>(frontier: &[T], counts: &[(T, i64)], queue: &[M]) -> bool
+    ensures value { result ≡ lent_tables (length frontier.now) (length counts.now) (length queue.now) }
+    ensures long { OnTrue result ((frontier_size ≤ length frontier.now) × (sender_counts ≤ length counts.now) × (queue_messages ≤ length queue.now)) }
+{
+    frontier.len() >= FRONTIER_SIZE
+        && counts.len() >= SENDER_COUNTS
+        && queue.len() >= QUEUE_MESSAGES
 }

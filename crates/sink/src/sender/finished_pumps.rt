@@ -1,12 +1,9 @@
 // Pumping a finished sender's queues, all that it knows.
-ghost use Rattle.std.specs.Prelude.{◌≡◌, length, nat_le};
-ghost use Rattle.capture.specs.Sizes.{queue_messages};
-ghost use Rattle.capture.specs.Posts.{post as post_of, Pump};
-ghost use Rattle.capture.specs.Stored.{queued};
-ghost use Rattle.sink.specs.Pumps.{pump_answer, WhereRefused};
+ghost use Rattle.std.specs.Prelude.{◌≡◌};
+ghost use Rattle.capture.specs.Posts.{post as post_of};
+ghost use Rattle.sink.specs.Pumps.{QueuePumped, WhereRefused};
 
-use super::{FinishedSender, QUEUE_MESSAGES};
-use crate::pump::pump;
+use super::FinishedSender;
 use capture::{StoredMessage, Writer};
 use lattice::{Same, Timestamp};
 use questions::Refusal;
@@ -18,16 +15,11 @@ impl FinishedSender {
         queue: &mut [StoredMessage<D, T, R>],
         post: &mut W,
     ) -> Result<(bool, Option<u64>), Refusal>
-        ensures pump { Pump (post_of W.Writer.taken W.Writer.ready W.Writer.committed) (nat_le queue_messages (length queue.old)) (queued D.Same.value T.PartialOrder.value R.Same.value self.old.updates queue.old) post.old (pump_answer result) (queued D.Same.value T.PartialOrder.value R.Same.value self.new.updates queue.new) post.new }
+        ensures pump { QueuePumped (post_of W.Writer.taken W.Writer.ready W.Writer.committed) D.Same.value T.PartialOrder.value R.Same.value self.old.updates.len queue.old post.old result self.new.updates.len queue.new post.new }
         ensures others { self.new.progress ≡ self.old.progress }
         ensures refused { WhereRefused result ((self.new ≡ self.old) × (queue.new ≡ queue.old) × (post.new ≡ post.old)) }
     {
-        if queue.len() < QUEUE_MESSAGES {
-            return Err(Refusal::ShortTable);
-        }
-        let (left, work, wait) = pump(queue, self.updates, post);
-        self.updates = left;
-        Ok((work, wait))
+        self.updates.pump(queue, post)
     }
 
     // Offers the queued statements to their post.  Tells whether work remains, and the post's wait.
@@ -36,15 +28,10 @@ impl FinishedSender {
         queue: &mut [StoredMessage<D, T, R>],
         post: &mut W,
     ) -> Result<(bool, Option<u64>), Refusal>
-        ensures pump { Pump (post_of W.Writer.taken W.Writer.ready W.Writer.committed) (nat_le queue_messages (length queue.old)) (queued D.Same.value T.PartialOrder.value R.Same.value self.old.progress queue.old) post.old (pump_answer result) (queued D.Same.value T.PartialOrder.value R.Same.value self.new.progress queue.new) post.new }
+        ensures pump { QueuePumped (post_of W.Writer.taken W.Writer.ready W.Writer.committed) D.Same.value T.PartialOrder.value R.Same.value self.old.progress.len queue.old post.old result self.new.progress.len queue.new post.new }
         ensures others { self.new.updates ≡ self.old.updates }
         ensures refused { WhereRefused result ((self.new ≡ self.old) × (queue.new ≡ queue.old) × (post.new ≡ post.old)) }
     {
-        if queue.len() < QUEUE_MESSAGES {
-            return Err(Refusal::ShortTable);
-        }
-        let (left, work, wait) = pump(queue, self.progress, post);
-        self.progress = left;
-        Ok((work, wait))
+        self.progress.pump(queue, post)
     }
 }

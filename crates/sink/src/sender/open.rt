@@ -5,10 +5,9 @@ ghost use Rattle.capture.specs.Kinds.{kinds};
 ghost use Rattle.capture.specs.Sender.{fresh_sender};
 ghost use Rattle.sink.specs.Senders.{sender_of, open_tables};
 
-use super::{OpenSender, QUEUE_MESSAGES};
-use crate::counting::SENDER_COUNTS;
+use super::{OpenSender, are_sized};
+use crate::queue::{QUEUE_MESSAGES, Queue};
 use capture::StoredMessage;
-use frontier::FRONTIER_SIZE;
 use lattice::{Same, Timestamp};
 use questions::Refusal;
 
@@ -26,19 +25,15 @@ impl OpenSender {
             (λ s. sender_of D.Same.value T.PartialOrder.value R.Same.value s frontier.new counts.now updates.now progress.now ≡ fresh_sender (kinds D.Same.alike T.PartialOrder.below T.Lattice.joined T.Timestamp.start R.Same.alike))
             (frontier.new ≡ frontier.old) }
     {
-        if frontier.len() < FRONTIER_SIZE
-            || counts.len() < SENDER_COUNTS
-            || updates.len() < QUEUE_MESSAGES
-            || progress.len() < QUEUE_MESSAGES
-        {
+        if !are_sized(frontier, counts, updates) || progress.len() < QUEUE_MESSAGES {
             return Err(Refusal::ShortTable);
         }
         frontier[0] = T::minimum();
         Ok(OpenSender {
             frontier: 1,
             counts: 0,
-            updates: 0,
-            progress: 0,
+            updates: Queue::new(),
+            progress: Queue::new(),
         })
     }
 }

@@ -1,4 +1,4 @@
-use Rattle.std.proofs.Common.{[], ◌∷◌, ◌++◌, sym, refl, ap, ◌∙◌}
+use Rattle.std.proofs.Common.{[], ◌∷◌, ◌++◌, sym, refl, ap, ◌∙◌, arith}
 use Rattle.capture.specs.Posts.{post}
 use Rattle.capture.specs.Stored.{stored_message}
 use Rattle.sink.proofs.Pumping.{taken_on, waits_here, all_taken}
@@ -11,6 +11,7 @@ returns-in-Some g c =
     let told = c.in-Some.ensures in
     let is = c.view-message.ensures in
     record {
+      within = omega arith;
       left = c.loop-i-test.true;
       pumped = waits_here o reads c.args.messages.now c.args.post.now c.loop-i.i c.loop-i.post c.loop-i.invariant c.index-messages-i.result c.loop-i-test.true c.index-messages-i.is c.poll.new.self c.in-Some.wait (ap (o.ready c.loop-i.post) (sym is) ∙ told.0) told.1;
     }
@@ -27,4 +28,4 @@ pub returns : goal.returns
 returns g c =
     let o = post g.W.Writer.taken g.W.Writer.ready g.W.Writer.committed in
     let reads = stored_message g.D.Same.value g.T.PartialOrder.value g.R.Same.value in
-    record { left = refl; pumped = all_taken o reads c.args.messages.now c.args.post.now c.loop-i.i c.loop-i.post c.loop-i.invariant c.loop-i-test.false }
+    record { within = omega arith; left = refl; pumped = all_taken o reads c.args.messages.now c.args.post.now c.loop-i.i c.loop-i.post c.loop-i.invariant c.loop-i-test.false }

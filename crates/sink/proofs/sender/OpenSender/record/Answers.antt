@@ -1,52 +1,78 @@
-use Rattle.std.proofs.Common.{[], map, length, refl, ap, ◌∙◌, arith}
+use Rattle.std.proofs.Common.{◌≡◌, ◌<◌, ◌≤◌, true, ◌&&◌, leb, [], map, length, ap, sym, ◌∙◌, refl, ⊎_elim, arith}
+use Rattle.std.proofs.lemmas.Bool.{and_from, and_left, and_right, le-leb, lt-leb}
 use Rattle.std.proofs.lemmas.Result.{err_from_is_err_and}
 use Rattle.frontier.specs.Tables.{counted}
 use Rattle.capture.specs.Kinds.{kinds}
 use Rattle.capture.specs.Views.{change_of}
 use Rattle.sink.specs.Senders.{sender_of, record_tables}
-use Rattle.sink.proofs.Recording.{told_2, recorded, Room, record_room}
+use Rattle.sink.proofs.Asking.{yes, no_here, by_push}
+use Rattle.sink.proofs.Pumping.{same_sender}
+use Rattle.sink.proofs.Recording.{all_small, recorded}
 use Rattle.sink.proofs.sender.OpenSender.record.Given as given
 use Rattle.sink.proofs.sender.OpenSender.record.Goals as goal
-use Rattle.sink.proofs.sender.OpenSender.record.Goals.{In_ok-n}
 
--- what the accepted record has room for
-room : (g : given.Over) (c : In_ok-n g) → Room c.args.self.now (length c.args.counts.now) (length c.args.queue.now) (length c.ask_record.new.scratch) c.in_ok-n.n
-room g c =
+pub returns-then-not-are_sized : goal.returns-then-not-are_sized
+returns-then-not-are_sized g c =
+    let short = ⊎_elim (λ h. and_left _ (leb 1024 (length c.args.scratch.now)) (sym c.are_sized.ensures.value ∙ h)) (λ h. and_right _ _ (lt-leb 1024 (length c.args.scratch.now) h.1)) c.then-not-are_sized.either in
+    λ t. (no_here _ short refl, (refl, refl, refl))
+
+pub returns-then-not-all_small : goal.returns-then-not-all_small
+returns-then-not-all_small g c =
     let o = g.T.PartialOrder in
-    let k = kinds g.D.Same.alike o.below g.T.Lattice.joined g.T.Timestamp.start g.R.Same.alike in
     let cs = map (change_of g.D.Same.value o.value g.R.Same.value) c.args.changes.now in
-    let told = c.in_ok-n.ensures in
-    record_room k g.D.Same.value o.value g.R.Same.value c.args.self.now c.args.frontier.now c.args.counts.now c.args.queue.now (length c.args.scratch.now) cs c.in_ok-n.n _ told.1.1 c.ask_record.auto.scratch told.0
+    let long = and_from _ (leb 1024 (length c.args.scratch.now)) (sym c.are_sized.ensures.value ∙ c.if-not-are_sized.false) (le-leb 1024 (length c.args.scratch.now) c.if-scratch-lt-SCRATCH_COUNTS.false) in
+    let brief = sym c.is_short.ensures ∙ c.if-not-is_short.false in
+    let beyond = sym c.all_beyond.ensures ∙ c.if-not-all_beyond.false in
+    let small = ap (all_small o.below cs) (sym c.count_changes-n.ensures.after.0) ∙ sym c.all_small.ensures ∙ c.if-not-all_small.true in
+    λ t. (yes _ long (yes _ brief (yes _ beyond (no_here _ small refl))), (refl, refl, refl))
 
-pub returns-in_err-n : goal.returns-in_err-n
-returns-in_err-n g c =
-    let told = c.in_err-n.ensures in
-    let p = err_from_is_err_and c.from_residual.result c.from_residual.ensures.1 in
-    rw (p.1, p.2) (λ t. (told.0, (refl, refl, refl)))
-
-pub copy_entries-requires : goal.copy_entries-requires
-copy_entries-requires g c = let r = room g (goal.at.copy_entries-requires g c).In_ok-n in (r.counts_made, r.counts_kept)
+pub returns-then-most-gt-SENDER_COUNTS : goal.returns-then-most-gt-SENDER_COUNTS
+returns-then-most-gt-SENDER_COUNTS g c =
+    let o = g.T.PartialOrder in
+    let cs = map (change_of g.D.Same.value o.value g.R.Same.value) c.args.changes.now in
+    let long = and_from _ (leb 1024 (length c.args.scratch.now)) (sym c.are_sized.ensures.value ∙ c.if-not-are_sized.false) (le-leb 1024 (length c.args.scratch.now) c.if-scratch-lt-SCRATCH_COUNTS.false) in
+    let brief = sym c.is_short.ensures ∙ c.if-not-is_short.false in
+    let beyond = sym c.all_beyond.ensures ∙ c.if-not-all_beyond.false in
+    let small = ap (all_small o.below cs) (sym c.count_changes-n.ensures.after.0) ∙ sym c.all_small.ensures ∙ c.if-not-all_small.false in
+    let fit = sym c.count_changes-n.ensures.room ∙ lt-leb c.count_changes-n.result.1 256 c.if-most-gt-SENDER_COUNTS.true in
+    λ t. (yes _ long (yes _ brief (yes _ beyond (yes _ small (no_here _ fit refl)))), (refl, refl, refl))
 
 pub push-requires : goal.push-requires
-push-requires g c =
-    let o = g.T.PartialOrder in
-    let k = kinds g.D.Same.alike o.below g.T.Lattice.joined g.T.Timestamp.start g.R.Same.alike in
-    let cs = map (change_of g.D.Same.value o.value g.R.Same.value) c.args.changes.now in
-    let s = sender_of g.D.Same.value o.value g.R.Same.value c.args.self.now c.args.frontier.now c.args.counts.now c.args.queue.now [] in
-    let tables = record_tables (length c.args.frontier.now) (length c.args.counts.now) (length c.args.queue.now) (length c.args.scratch.now) in
-    (omega arith, ((room g (goal.at.push-requires g c).In_ok-n).place, told_2 k tables cs s c.in_ok-n.ensures.0))
+push-requires g c = let long = c.if-not-are_sized.ensures.long in (omega arith, omega arith)
 
-pub invariant_of-self : goal.invariant_of-self
-invariant_of-self g c =
-    let r = room g (goal.at.invariant_of-self g c).In_ok-n in
-    record { few_times = c.args.self.now.few_times; few_counts = r.few_counts; few_updates = r.few_queued; few_progress = c.args.self.now.few_progress }
+pub returns-in_err-push : goal.returns-in_err-push
+returns-in_err-push g c =
+    let o = g.T.PartialOrder in
+    let cs = map (change_of g.D.Same.value o.value g.R.Same.value) c.args.changes.now in
+    let long = and_from _ (leb 1024 (length c.args.scratch.now)) (sym c.are_sized.ensures.value ∙ c.if-not-are_sized.false) (le-leb 1024 (length c.args.scratch.now) c.if-scratch-lt-SCRATCH_COUNTS.false) in
+    let brief = sym c.is_short.ensures ∙ c.if-not-is_short.false in
+    let beyond = sym c.all_beyond.ensures ∙ c.if-not-all_beyond.false in
+    let small = ap (all_small o.below cs) (sym c.count_changes-n.ensures.after.0) ∙ sym c.all_small.ensures ∙ c.if-not-all_small.false in
+    let fit = sym c.count_changes-n.ensures.room ∙ le-leb c.count_changes-n.result.1 256 c.if-most-gt-SENDER_COUNTS.false in
+    let told = c.in_err-push.ensures {u = tt} in
+    let p = err_from_is_err_and c.from_residual.result c.from_residual.ensures.1 in
+    rw (p.1, p.2) (λ t. (yes _ long (yes _ brief (yes _ beyond (yes _ small (yes _ fit (by_push _ brief told.0))))), (same_sender _ _ _ _ _ _ _ _ _ _ told.1.0 refl, refl, told.1.1)))
+
+pub copy_entries-requires : goal.copy_entries-requires
+copy_entries-requires g c = let long = c.if-not-are_sized.ensures.long in (omega arith, omega arith)
+
+pub invariant_of-self-2 : goal.invariant_of-self-2
+invariant_of-self-2 g c = record { few_times = c.args.self.now.few_times; few_counts = omega arith }
 
 pub returns : goal.returns
 returns g c =
     let o = g.T.PartialOrder in
-    let k = kinds g.D.Same.alike o.below g.T.Lattice.joined g.T.Timestamp.start g.R.Same.alike in
     let cs = map (change_of g.D.Same.value o.value g.R.Same.value) c.args.changes.now in
+    let long = and_from _ (leb 1024 (length c.args.scratch.now)) (sym c.are_sized.ensures.value ∙ c.if-not-are_sized.false) (le-leb 1024 (length c.args.scratch.now) c.if-scratch-lt-SCRATCH_COUNTS.false) in
+    let brief = sym c.is_short.ensures ∙ c.if-not-is_short.false in
+    let beyond = sym c.all_beyond.ensures ∙ c.if-not-all_beyond.false in
+    let small = ap (all_small o.below cs) (sym c.count_changes-n.ensures.after.0) ∙ sym c.all_small.ensures ∙ c.if-not-all_small.false in
+    let fit = sym c.count_changes-n.ensures.room ∙ le-leb c.count_changes-n.result.1 256 c.if-most-gt-SENDER_COUNTS.false in
+    let told = c.in_ok-push.ensures {u = tt} in
+    let counts = ap (map (counted o.value)) c.copy_entries.ensures.front ∙ c.count_changes-n.ensures.after.0 in
+    let k = kinds g.D.Same.alike o.below g.T.Lattice.joined g.T.Timestamp.start g.R.Same.alike in
     let tables = record_tables (length c.args.frontier.now) (length c.args.counts.now) (length c.args.queue.now) (length c.args.scratch.now) in
-    let told = c.in_ok-n.ensures in
-    let counts = ap (map (counted o.value)) c.copy_entries.ensures.front ∙ told.1.0 in
-    λ t. let s = sender_of g.D.Same.value o.value g.R.Same.value c.args.self.now c.args.frontier.now c.args.counts.now c.args.queue.now t in (told.0, recorded k tables cs s told.0 _ _ counts c.push.ensures)
+    λ t.
+    let s = sender_of g.D.Same.value o.value g.R.Same.value c.args.self.now c.args.frontier.now c.args.counts.now c.args.queue.now t in
+    let asked = yes _ long (yes _ brief (yes _ beyond (yes _ small (yes _ fit (by_push _ brief told.0))))) in
+    (asked, recorded k tables cs s asked _ _ counts told.1)
