@@ -51,24 +51,3 @@ module _ {A : Type 0} (below : A → A → Bool) (f : List A) (c : A × ℤ) (re
 -- nothing is left
 pub announced_all : {A : Type 0} (below : A → A → Bool) (f : List A) (all left : List (A × ℤ)) (written : List (A × ℕ)) → left ≡ [] → Announcing below f all left written → (small (announced below f all) ≡ true) × (written ≡ announced below f all)
 announced_all below f all left written none so_far = (so_far.few ∙ ap (λ l. small (announced below f l)) none, sym (so_far.made ∙ ap (λ l. written ++ announced below f l) none ∙ append-nil written))
-
-module _ {X A : Type 0} (below : A → A → Bool) (value : X → A) (f : List A) where
-  -- the stored count's time is beyond f
-  abbrev pub stays : X × ℤ → Bool
-  stays e = beyond below f (value e.0)
-
-  one_more : (b : Bool) (x : X × ℤ) (xs : List (X × ℤ)) (vs : List (A × ℤ)) → map (counted value) xs ≡ vs → map (counted value) (cond b (x ∷ xs) xs) ≡ cond b (counted value x ∷ vs) vs
-  one_more true x xs vs e = ap (λ l. counted value x ∷ l) e
-  one_more false x xs vs e = e
-
-  retained_map : (xs : List (X × ℤ)) → map (counted value) (filter stays xs) ≡ retained below f (map (counted value) xs)
-  retained_map [] = refl
-  retained_map (x ∷ xs) = one_more (stays x) x (filter stays xs) (retained below f (map (counted value) xs)) (retained_map xs)
-
-  -- the loop that keeps is at its end
-  pub retained_all : (xs ys : List (X × ℤ)) (k i len : ℕ) → i ≡ len → FiltersInPlace stays xs ys k i → (k ≤ len) × Holds (counted value) k ys (retained below f (in_use (counted value) len xs))
-  retained_all xs ys k i len at-end kp =
-      let front : take k ys ≡ filter stays (take len xs) = kp.front ∙ ap (λ n. filter stays (take n xs)) at-end in
-      let reads : in_use (counted value) k ys ≡ retained below f (in_use (counted value) len xs) = ap (map (counted value)) front ∙ retained_map (take len xs) in
-      let short : k ≤ length ys = omega (arith, kp.behind, kp.within, kp.long) in
-      (omega (arith, kp.behind), (reads, ap length (sym reads) ∙ length-map (take k ys) (counted value) ∙ length-take-le k ys short))

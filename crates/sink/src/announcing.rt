@@ -9,6 +9,7 @@ ghost use Rattle.capture.specs.Sender.{told, announced, retained, some};
 ghost use Rattle.capture.specs.Views.{count_of};
 
 use crate::counting::is_small;
+use frontier::entries::retain;
 use frontier::{antichain_less_equal, is_beyond};
 use lattice::PartialOrder;
 use questions::Refusal;
@@ -56,9 +57,9 @@ pub(crate) fn announce<T: PartialOrder + Copy>(
     Ok(n)
 }
 
-// Moves those of the first `len` counts whose times are beyond the list to the front, in their
-// order, and tells how many they are.
-pub(crate) fn retain<T: PartialOrder + Copy>(
+// Keeps those of the first `len` counts whose times are beyond the list, and tells how many they
+// are.
+pub(crate) fn keep_beyond<T: PartialOrder + Copy>(
     counts: &mut [(T, i64)],
     len: usize,
     list: &[T],
@@ -67,13 +68,5 @@ pub(crate) fn retain<T: PartialOrder + Copy>(
     ensures within { result ≤ len }
     ensures after { Holds (counted T.value) result counts.new (retained T.below (map T.value list.now) (in_use (counted T.value) len counts.old)) }
 {
-    let mut k = 0usize;
-    for i in 0..len {
-        let e = counts[i];
-        if is_beyond(list, &e.0) {
-            counts[k] = e;
-            k += 1;
-        }
-    }
-    k
+    retain(counts, len, |e| is_beyond(list, &e.0))
 }

@@ -8,7 +8,7 @@ ghost use Rattle.capture.specs.Sizes.{largest_count, sender_counts, message_chan
 ghost use Rattle.capture.specs.Sender.{told, count_at, raised};
 ghost use Rattle.capture.specs.Views.{change_of};
 
-use frontier::steps::copy_entries;
+use frontier::entries::copy_entries;
 use frontier::{is_beyond, update};
 use lattice::{PartialOrder, Same, same_time};
 

@@ -4,10 +4,11 @@ ghost use Rattle.capture.specs.Kinds.{kinds};
 ghost use Rattle.sink.specs.Senders.{sender_of, close_tables, Closed};
 
 use super::{OpenSender, are_sized};
-use crate::announcing::{advances, announce, retain};
+use crate::announcing::{advances, announce, keep_beyond};
 use capture::{Message, Progress, STATEMENT_COUNTS, StoredMessage};
 use frontier::FRONTIER_SIZE;
-use frontier::steps::{copy_entries, extend};
+use frontier::entries::copy_entries;
+use frontier::steps::extend;
 use lattice::{Same, Timestamp};
 use questions::Refusal;
 
@@ -47,7 +48,7 @@ impl OpenSender {
             counts: &announced[..m],
         };
         self.progress.push(queue, Message::Progress(statement))?;
-        self.counts = retain(counts, self.counts, &upper[..n]);
+        self.counts = keep_beyond(counts, self.counts, &upper[..n]);
         copy_entries(upper, frontier, n);
         self.frontier = n;
         Ok(())

@@ -7,7 +7,7 @@ ghost use Rattle.sink.specs.Senders.{sender_of, record_tables, Recorded};
 use super::{OpenSender, are_sized};
 use crate::counting::{SCRATCH_COUNTS, SENDER_COUNTS, all_beyond, all_small, count_changes};
 use capture::{Message, StoredMessage};
-use frontier::steps::copy_entries;
+use frontier::entries::copy_entries;
 use lattice::{Same, Timestamp};
 use questions::Refusal;
 

@@ -76,7 +76,7 @@ pub invariant_of-self-2 : goal.invariant_of-self-2
 invariant_of-self-2 g c =
     let o = g.T.PartialOrder in
     let told = c.in_ok-n.ensures.answer in
-    record { few_times = made_few o.below o.value (map o.value c.args.list.now) c.in_ok-n.n _ told.1 (length c.args.upper.now) told.0; few_counts = omega (arith, c.retain-self.ensures.within, c.args.self.now.few_counts) }
+    record { few_times = made_few o.below o.value (map o.value c.args.list.now) c.in_ok-n.n _ told.1 (length c.args.upper.now) told.0; few_counts = omega (arith, c.keep_beyond-self.ensures.within, c.args.self.now.few_counts) }
 
 pub returns : goal.returns
 returns g c =
@@ -98,4 +98,4 @@ returns g c =
     λ t.
     let s = sender_of g.D.Same.value o.value g.R.Same.value c.args.self.now c.args.frontier.now c.args.counts.now t c.args.queue.now in
     let asked = yes _ long (yes _ on (yes _ small (yes _ fit (by_push _ brief told.0)))) in
-    (asked, closed k tables s l _ _ _ _ _ asked frontier made.0 c.retain-self.ensures.after.0 (c.in_ok-m.ensures.1.0 ∙ same) told.1)
+    (asked, closed k tables s l _ _ _ _ _ asked frontier made.0 c.keep_beyond-self.ensures.after.0 (c.in_ok-m.ensures.1.0 ∙ same) told.1)

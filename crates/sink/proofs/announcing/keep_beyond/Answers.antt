@@ -1,0 +1,14 @@
+use Rattle.std.proofs.Common.{map, rules}
+use Rattle.std.proofs.lemmas.Fn.{filter_same}
+use Rattle.frontier.specs.Frontiers.{beyond}
+use Rattle.frontier.specs.Tables.{counted}
+use Rattle.frontier.proofs.Retaining.{kept_reads}
+use Rattle.sink.proofs.announcing.keep_beyond.Goals as goal
+
+pub returns : goal.returns
+returns g c =
+    let o = g.T.PartialOrder in
+    let f = map o.value c.args.list.now in
+    let told = c.retain.ensures in
+    let kept = filter_same _ (λ e. beyond o.below f (o.value e.0)) _ (λ e b f k. search rules) _ _ told.kept in
+    record { within = told.within; after = kept_reads (λ e. beyond o.below f e.0) (counted o.value) c.args.counts.now c.retain.new.table c.retain.result c.args.len told.within c.requires c.retain.auto.table kept }
