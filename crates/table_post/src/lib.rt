@@ -43,8 +43,7 @@ impl<'a, D: Same + Copy, T: PartialOrder + Copy, R: Same + Copy> TablePost<'a, D
     pub fn messages(&self) -> &[StoredMessage<D, T, R>]
         ensures { map (stored_message D.Same.value T.PartialOrder.value R.Same.value) result.now ≡ queued D.Same.value T.PartialOrder.value R.Same.value self.now.len self.now.table.now }
     {
-        let all = &*self.table;
-        &all[0..self.len]
+        &self.table[..self.len]
     }
 }
 
@@ -57,16 +56,11 @@ impl<'a, D: Same + Copy, T: Timestamp + Copy, R: Same + Copy> Writer<D, T, R>
     ghost committed = { λ p. true };
 
     fn poll(&mut self, item: &Message<'_, D, T, R>) -> Option<u64> {
-        if self.len >= POST_MESSAGES {
-            return Some(WAIT);
-        }
-        if !item.is_short() {
-            return Some(WAIT);
-        }
         let n = self.len;
-        let mut entry = self.table[n];
-        let _ = entry.store(*item);
-        self.table[n] = entry;
+        let table = &mut *self.table;
+        if n >= POST_MESSAGES || table[n].store(*item).is_err() {
+            return Some(WAIT);
+        }
         self.len = n + 1;
         None
     }
