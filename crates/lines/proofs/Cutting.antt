@@ -1,51 +1,44 @@
 -- How a cut goes on behind the bytes that it has passed, and how bytes part into lines.
-use Rattle.std.proofs.Common.{◌≡◌, ℕ, suc, ◌+◌, ◌-◌, ◌<◌, ◌≤◌, Bool, true, false, cond, eqb, List, [], ◌∷◌, ◌++◌, length, get_or, take, drop, Some, None, Option, sym, refl, ap, ◌∙◌, subst, append_assoc, arith}
-use Rattle.std.proofs.lemmas.List.{at_drop_more, at_drop_all, take_more, take_all, length-drop, length-append, length_push, drop_at, drop-drop, take_rest, append-nil}
-use Rattle.std.proofs.lemmas.Bool.{cond-true, cond-false, eq-eqb, ne_eqb, eqb-true, eqb-false}
+use Rattle.std.proofs.Common.{◌≡◌, ℕ, suc, ◌+◌, ◌-◌, ◌<◌, ◌≤◌, Bool, true, false, cond, eqb, List, [], ◌∷◌, ◌++◌, length, take, drop, Some, None, Option, sym, refl, ap, ◌∙◌, subst, append_assoc, arith}
+use Rattle.std.proofs.lemmas.List.{take_all, length-drop, length-append, append-nil}
+use Rattle.std.proofs.lemmas.Iterator.Adapters.{position_from-zero}
+use Rattle.std.proofs.lemmas.Bool.{eqb-true}
+use Rattle.std.specs.Prelude.{◌==◌}
+use Rattle.std.specs.List.{position, position_from}
 use Rattle.lines.specs.Cuts.{with_byte, cut_at, split_from}
 
--- bytes before what was cut off behind them
-abbrev pub with_bytes : List ℕ → Option (List ℕ × List ℕ) → Option (List ℕ × List ℕ)
-with_bytes [] o = o
-with_bytes (b ∷ bs) o = with_byte b (with_bytes bs o)
+-- bytes in which the first mark stands j bytes on, where the count began at k
+cut_found : (mark : ℕ) (bs : List ℕ) (k i : ℕ) → position_from (λ b. b == mark) k bs ≡ Some i → (j : ℕ) × (i ≡ k + j) × (cut_at mark bs ≡ Some (take j bs, drop (suc j) bs))
+cut_found mark [] k i e = let z : ◌≡◌ {A = ℕ} 0 1 = cc in absurd (omega arith)
+cut_found mark (b ∷ bs) k i e =
+    let Goal : Bool → Type 0 = λ v. (j : ℕ) × (i ≡ k + j) × (cond v (Some ([], bs)) (with_byte b (cut_at mark bs)) ≡ Some (take j (b ∷ bs), drop (suc j) (b ∷ bs))) in
+    let here : Some k ≡ Some i → Goal true = λ h. let is : k ≡ i = cc in (0, omega arith, refl) in
+    let there : position_from (λ b. b == mark) (k + 1) bs ≡ Some i → Goal false = λ h. let more = cut_found mark bs (k + 1) i h in (suc more.0, omega (arith, more.1), ap (with_byte b) more.2) in
+    let case : (v : Bool) → cond v (Some k) (position_from (λ b. b == mark) (k + 1) bs) ≡ Some i → Goal v = λ v. elim v as (λ v. cond v (Some k) (position_from (λ b. b == mark) (k + 1) bs) ≡ Some i → Goal v) [ true ↦ here | false ↦ there ] in
+    case (eqb b mark) e
 
-with_push : (xs : List ℕ) (b : ℕ) (o : Option (List ℕ × List ℕ)) → with_bytes (xs ++ b ∷ []) o ≡ with_bytes xs (with_byte b o)
-with_push [] b o = refl
-with_push (x ∷ xs) b o = ap (with_byte x) (with_push xs b o)
+-- bytes without the mark
+cut_missed : (mark : ℕ) (bs : List ℕ) (k : ℕ) → position_from (λ b. b == mark) k bs ≡ None → cut_at mark bs ≡ None
+cut_missed mark [] k e = refl
+cut_missed mark (b ∷ bs) k e =
+    let Goal : Bool → Type 0 = λ v. cond v (Some ([], bs)) (with_byte b (cut_at mark bs)) ≡ None in
+    let case : (v : Bool) → cond v (Some k) (position_from (λ b. b == mark) (k + 1) bs) ≡ None → Goal v = λ v. elim v as (λ v. cond v (Some k) (position_from (λ b. b == mark) (k + 1) bs) ≡ None → Goal v) [
+      | true ↦ λ h. let z : ◌≡◌ {A = ℕ} 0 1 = cc in absurd (omega arith)
+      | false ↦ λ h. ap (with_byte b) (cut_missed mark bs (k + 1) h)
+    ] in
+    case (eqb b mark) e
 
-pub with_some : (xs : List ℕ) (p : List ℕ × List ℕ) → with_bytes xs (Some p) ≡ Some (xs ++ p.0, p.1)
-with_some [] p = refl
-with_some (x ∷ xs) p = ap (with_byte x) (with_some xs p)
+-- the two parts as slices, of which the second has all that is left
+pub cut_here : (mark : ℕ) (bs : List ℕ) (i : ℕ) → Some i ≡ position (λ b. b == mark) bs → cut_at mark bs ≡ Some (take i bs, take (length bs - (i + 1)) (drop (i + 1) bs))
+cut_here mark bs i e =
+    let found = cut_found mark bs 0 i (sym (e ∙ position_from-zero (λ b. b == mark) bs)) in
+    let same : found.0 ≡ i = omega (arith, found.1) in
+    let next : suc found.0 ≡ i + 1 = omega (arith, found.1) in
+    let all : length (drop (i + 1) bs) ≤ length bs - (i + 1) = omega (arith, length-drop (i + 1) bs) in
+    found.2 ∙ ap (λ n. Some (take n bs, drop (suc found.0) bs)) same ∙ ap (λ n. Some (take i bs, drop n bs)) next ∙ ap (λ xs. Some (take i bs, xs)) (sym (take_all (length bs - (i + 1)) (drop (i + 1) bs) all))
 
-pub with_none : (xs : List ℕ) → with_bytes xs None ≡ None
-with_none [] = refl
-with_none (x ∷ xs) = ap (with_byte x) (with_none xs)
-
-module _ (mark : ℕ) (bytes : List ℕ) (i : ℕ) (so_far : cut_at mark bytes ≡ with_bytes (take i bytes) (cut_at mark (drop i bytes))) where
-  module _ (h : i < length bytes) where
-    pub cut_on : eqb (get_or bytes i 0) mark ≡ false → cut_at mark bytes ≡ with_bytes (take (i + 1) bytes) (cut_at mark (drop (i + 1) bytes))
-    cut_on e =
-        so_far
-        ∙ ap (with_bytes (take i bytes)) (at_drop_more (cut_at mark) bytes i 0 h ∙ cond-false (eqb (get_or bytes i 0) mark) (Some ([], drop (i + 1) bytes)) (with_byte (get_or bytes i 0) (cut_at mark (drop (i + 1) bytes))) e)
-        ∙ sym (with_push (take i bytes) (get_or bytes i 0) (cut_at mark (drop (i + 1) bytes)))
-        ∙ ap (λ xs. with_bytes xs (cut_at mark (drop (i + 1) bytes))) (sym (take_more bytes i 0 h))
-
-    pub cut_here : eqb (get_or bytes i 0) mark ≡ true → cut_at mark bytes ≡ Some (take i bytes, drop (i + 1) bytes)
-    cut_here e =
-        so_far
-        ∙ ap (with_bytes (take i bytes)) (at_drop_more (cut_at mark) bytes i 0 h ∙ cond-true (eqb (get_or bytes i 0) mark) (Some ([], drop (i + 1) bytes)) (with_byte (get_or bytes i 0) (cut_at mark (drop (i + 1) bytes))) e)
-        ∙ with_some (take i bytes) ([], drop (i + 1) bytes)
-        ∙ ap (λ xs. Some (xs, drop (i + 1) bytes)) (append-nil (take i bytes))
-
-  pub cut_nowhere : length bytes ≤ i → cut_at mark bytes ≡ None
-  cut_nowhere h = so_far ∙ ap (with_bytes (take i bytes)) (at_drop_all (cut_at mark) bytes i h) ∙ with_none (take i bytes)
-
--- the two parts as slices: `&s[0..i]` is `take (i - 0) s`, and `&s[i + 1..]` has all that is left
-pub whole : (bytes : List ℕ) (i : ℕ) → ◌≡◌ {A = Option (List ℕ × List ℕ)} (Some (take i bytes, drop (i + 1) bytes)) (Some (take (i - 0) bytes, take (length bytes - (i + 1)) (drop (i + 1) bytes)))
-whole bytes i =
-    let here : i ≡ i - 0 = omega arith in
-    let all : length (drop (i + 1) bytes) ≤ length bytes - (i + 1) = omega (arith, length-drop (i + 1) bytes) in
-    ap (λ n. Some (take n bytes, drop (i + 1) bytes)) here ∙ ap (λ xs. Some (take (i - 0) bytes, xs)) (sym (take_all (length bytes - (i + 1)) (drop (i + 1) bytes) all))
+pub cut_nowhere : (mark : ℕ) (bs : List ℕ) → ◌≡◌ {A = Option ℕ} None (position (λ b. b == mark) bs) → cut_at mark bs ≡ None
+cut_nowhere mark bs e = cut_missed mark bs 0 (sym (e ∙ position_from-zero (λ b. b == mark) bs))
 
 -- the line that is cut off comes first, and the input goes on behind it
 pub split_at : (begun bs : List ℕ) (p : List ℕ × List ℕ) → cut_at 10 bs ≡ Some p → split_from begun bs ≡ ((begun ++ p.0) ∷ (split_from [] p.1).0, (split_from [] p.1).1)
@@ -98,24 +91,5 @@ cut_parts mark (b ∷ bs) p e =
     ] in
     case (eqb b mark) refl e
 
--- where the bytes from `at` on are cut, the part behind the mark begins so much further on
-pub cut_on_at : (mark : ℕ) (bytes : List ℕ) (at : ℕ) (line behind : List ℕ) → cut_at mark (drop at bytes) ≡ Some (line, behind) → behind ≡ drop (at + (length line + 1)) bytes
-cut_on_at mark bytes at line behind e =
-    let n : length (line ++ mark ∷ []) ≡ length line + 1 = length_push line mark in
-    let parts : drop at bytes ≡ (line ++ mark ∷ []) ++ behind = cut_parts mark (drop at bytes) (line, behind) e ∙ sym (append_assoc line (mark ∷ []) behind) in
-    sym (drop_at (line ++ mark ∷ []) behind (length line + 1) n) ∙ ap (drop (length line + 1)) (sym parts) ∙ drop-drop (length line + 1) at bytes
-
-pub cut_within : (mark : ℕ) (bytes : List ℕ) (at : ℕ) (line behind : List ℕ) → cut_at mark (drop at bytes) ≡ Some (line, behind) → at + (length line + 1) ≤ length bytes
-cut_within mark bytes at line behind e = omega (arith, ap length (cut_parts mark (drop at bytes) (line, behind) e), length-drop at bytes, length-append line (mark ∷ behind))
-
--- `&bytes[at..]` has all bytes from `at` on
-pub cut_rest : (mark : ℕ) (bytes : List ℕ) (at : ℕ) (o : Option (List ℕ × List ℕ)) → cut_at mark (take (length bytes - at) (drop at bytes)) ≡ o → cut_at mark (drop at bytes) ≡ o
-cut_rest mark bytes at o e = ap (cut_at mark) (sym (take_rest bytes at)) ∙ e
-
-pub none_ahead : (bytes : List ℕ) (at : ℕ) → at ≤ length bytes → eqb at (length bytes) ≡ eqb (length (drop at bytes)) 0
-none_ahead bytes at h =
-    let case : (v : Bool) → eqb at (length bytes) ≡ v → v ≡ eqb (length (drop at bytes)) 0 = λ v. elim v as (λ v. eqb at (length bytes) ≡ v → v ≡ eqb (length (drop at bytes)) 0) [
-      | true ↦ λ e. sym (eq-eqb (length (drop at bytes)) 0 (omega (arith, eqb-true at (length bytes) e, length-drop at bytes)))
-      | false ↦ λ e. sym (ne_eqb (length (drop at bytes)) 0 (λ k. eqb-false at (length bytes) e (omega (arith, length-drop at bytes))))
-    ] in
-    case (eqb at (length bytes)) refl
+pub cut_length : (mark : ℕ) (bs : List ℕ) (p : List ℕ × List ℕ) → cut_at mark bs ≡ Some p → length bs ≡ length p.1 + (length p.0 + 1)
+cut_length mark bs p e = omega (arith, ap length (cut_parts mark bs p e), length-append p.0 (mark ∷ p.1))

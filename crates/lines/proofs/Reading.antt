@@ -1,26 +1,21 @@
 -- How a file goes on behind a line.
-use Rattle.std.proofs.Common.{◌≡◌, ℕ, ◌+◌, ◌<◌, ◌≤◌, min, Bool, true, ◌&&◌, leb, List, [], ◌∷◌, ◌++◌, map, length, take, Some, None, Ok, Err, Result, sym, refl, ap, ◌∙◌, arith}
+use Rattle.std.proofs.Common.{◌≡◌, ℕ, ◌+◌, ◌<◌, ◌≤◌, min, Bool, true, false, ◌&&◌, leb, List, [], ◌∷◌, ◌++◌, map, length, take, Some, None, Ok, Err, Result, sym, refl, ap, ◌∙◌, arith}
 use Rattle.std.specs.Prelude.{is_ok}
 use Rattle.std.proofs.lemmas.List.{length-take, length_push, length-map, map_push, take_all, take-append-le}
 use Rattle.std.proofs.Math.Bool.{and-false}
 use Rattle.std.proofs.lemmas.Bool.{leb-true, leb-false, le-leb, lt-leb}
 use Rattle.questions.specs.declared.Refusal.{Refusal}
+use Rattle.questions.specs.Questions.{first_no}
 use Rattle.questions.proofs.Asking.{asked_all}
-use Rattle.lattice.specs.declared.product.Product.{Product}
-use Rattle.timetable.specs.declared.week.Week.{Week}
-use Rattle.timetable.specs.declared.lesson.Lesson.{Lesson}
-use Rattle.timetable.specs.declared.amount.Amount.{Amount}
 use Rattle.capture.specs.Rows.{Stores, has_places, row}
 use Rattle.capture.specs.declared.row.Row.{Row}
 use Rattle.lines.specs.declared.line.Line.{Line}
-use Rattle.lines.specs.declared.line.Line.TheVariants.{Updates, Progress, Update, Lower, Upper, Count, End}
 use Rattle.lines.specs.Cuts.{cut_at, split_from}
 use Rattle.lines.specs.Said.{Said, line_says, line_value}
-use Rattle.lines.specs.Format.{LessonChange, LessonMessage, Draft, Next, outside, in_changes, goes_on, completes, stops, step, with_message, closes, reads, says_from}
-use Rattle.lines.specs.Ahead.{left, ahead, follows}
+use Rattle.lines.specs.Format.{LessonMessage, Draft, Next, outside, goes_on, completes, stops, step, with_message, closes, reads, says_from}
+use Rattle.lines.specs.Ahead.{left, ahead, follows, HandsOut}
 use Rattle.lines.specs.declared.line_reader.LineReader.{LineReader}
 use Rattle.lines.proofs.Cutting.{split_at, split_end}
-use Rattle.lines.proofs.Fielding.{asked_no}
 
 module _ (d : Draft) (n : ℕ) (rest : List ℕ) where
   module _ (line behind : List ℕ) (found : cut_at 10 rest ≡ Some (line, behind)) where
@@ -36,10 +31,6 @@ module _ (d : Draft) (n : ℕ) (rest : List ℕ) where
       said_line : says_from d n rest ≡ elim (step d x) [ stops ↦ Err (n + 1) | goes_on e ↦ says_from e (n + 1) behind | completes m ↦ with_message m (says_from outside (n + 1) behind) ]
       said_line =
           opened_line ∙ ap (λ o. elim o [ None ↦ Err (n + 1) | Some x ↦ elim (step d x) [ stops ↦ Err (n + 1) | goes_on e ↦ says_from e (n + 1) behind | completes m ↦ with_message m (says_from outside (n + 1) behind) ] ]) says
-
-      -- a line out of its place
-      pub line_stops : step d x ≡ stops → says_from d n rest ≡ Err (n + 1)
-      line_stops e = said_line ∙ ap (λ v. elim v [ stops ↦ Err (n + 1) | goes_on e ↦ says_from e (n + 1) behind | completes m ↦ with_message m (says_from outside (n + 1) behind) ]) e
 
       -- a line with which the message goes on
       pub line_goes_on : (e : Draft) → step d x ≡ goes_on e → says_from d n rest ≡ says_from e (n + 1) behind
@@ -72,6 +63,15 @@ module _ (d : Draft) (r s : LineReader) (line : List ℕ) (found : cut_at 10 (le
   pub ahead_said : (x : Line) → line_says line ≡ Some (line_value x) → ahead d r ≡ follows (step d (line_value x)) s
   ahead_said x says = said_line d r.count (left r) line (left s) found (line_value x) says ∙ counted (step d (line_value x)) r.count s next
 
+-- a line more, with which the message goes on
+pub went_on : (first d e : Draft) (before r s : LineReader) (x y : Line) → ahead first before ≡ ahead d r → HandsOut x r s → x ≡ y → step d (line_value y) ≡ goes_on e → ahead first before ≡ ahead e s
+went_on first d e before r s x y so_far line is next = so_far ∙ line.said d ∙ ap (λ z. follows (step d (line_value z)) s) is ∙ ap (λ n. follows n s) next
+
+-- a question answered no
+asked_no : (b : Bool) (n m : ℕ) → first_no ((b, n) ∷ []) ≡ Some m → b ≡ false
+asked_no true n m e = let z : ◌≡◌ {A = ℕ} 0 1 = cc in absurd (omega arith)
+asked_no false n m e = refl
+
 -- a list that is kept up to its n-th value takes one value more, and whether it fits goes by whether the row took it
 pub pushed : {X A : Type 0} (value : X → A) (n : ℕ) (before after : Row X n) (all : List A) (x : X) (told : Result Unit Refusal) (room fit : Bool) → room ≡ is_ok told → map value (row before) ≡ take n all → fit ≡ leb (length all) n → Stores row (has_places n) told before after (row before ++ x ∷ []) → (map value (row after) ≡ take n (all ++ value x ∷ [])) × ((fit && room) ≡ leb (length (all ++ value x ∷ [])) n)
 pushed value n before after all x (Ok u) room fit took kept fits h =
@@ -90,13 +90,3 @@ pushed value n before after all x (Err f) room fit took kept fits h =
       ap (λ r. map value (row r)) h.1 ∙ kept ∙ sym (take-append-le n all (value x ∷ []) (omega arith)),
       ap (λ b. fit && b) took ∙ and-false fit ∙ sym (lt-leb _ _ (omega arith)),
     )
-
--- a line that is out of its place among changes
-pub changes_stop : (cs : List LessonChange) (x : Line) → ((l : Lesson) (t : Product ℕ Week) (a : Amount) → x ≡ Update l t a → ⊥) → (x ≡ End → ⊥) → step (in_changes cs) (line_value x) ≡ stops
-changes_stop cs Updates u e = refl
-changes_stop cs Progress u e = refl
-changes_stop cs (Update l t a) u e = absurd (u l t a refl)
-changes_stop cs (Lower t) u e = refl
-changes_stop cs (Upper t) u e = refl
-changes_stop cs (Count t n) u e = refl
-changes_stop cs End u e = absurd (e refl)

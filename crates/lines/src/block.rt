@@ -53,6 +53,7 @@ impl MessageBlock {
 
     // Reads the next message of a file, to its end however long it is, and tells whether there was
     // one; or names the first malformed line, and then what the block has means nothing.
+    // A `bool`, as an `Option` of the message would lend the block on, so that no clause could say what it is then.
     pub fn read(&mut self, lines: &mut LineReader) -> Result<bool, Malformed>
         ensures { MatchResult result (λ some. Got some lines.old lines.new self.new) (λ e. ahead outside lines.old ≡ Err e.line) }
     {

@@ -5,7 +5,7 @@ ghost use Rattle.lines.specs.Said.{kind_says, line_says, line_value};
 ghost use Rattle.lines.specs.Values.{Finds};
 
 use crate::Time;
-use crate::fields::{change, count, fields, time};
+use crate::fields::Fields;
 use timetable::{Amount, Lesson};
 
 // What a well formed line says.
@@ -31,7 +31,7 @@ pub enum Line {
 fn bare(line: Line, rest: &[u8]) -> Option<Line>
     ensures { Finds result line_value (alone (line_value line) rest.now) }
 {
-    if rest.is_empty() { Some(line) } else { None }
+    rest.is_empty().then_some(line)
 }
 
 // What a line of the kind says, by the bytes behind the letter.
@@ -42,13 +42,13 @@ fn read_kind(kind: char, rest: &[u8]) -> Option<Line>
         'R' => bare(Line::Updates, rest),
         'S' => bare(Line::Progress, rest),
         'U' => {
-            let (lesson, time, amount) = change(fields(rest)?)?;
+            let (lesson, time, amount) = Fields::new(rest)?.change()?;
             Some(Line::Update(lesson, time, amount))
         }
-        'L' => Some(Line::Lower(time(fields(rest)?)?)),
-        'H' => Some(Line::Upper(time(fields(rest)?)?)),
+        'L' => Some(Line::Lower(Fields::new(rest)?.last_time()?)),
+        'H' => Some(Line::Upper(Fields::new(rest)?.last_time()?)),
         'C' => {
-            let (time, n) = count(fields(rest)?)?;
+            let (time, n) = Fields::new(rest)?.count()?;
             Some(Line::Count(time, n))
         }
         'E' => bare(Line::End, rest),
@@ -61,7 +61,7 @@ pub fn read_line(line: &[u8]) -> Option<Line>
     ensures { Finds result line_value (line_says line.now) }
 {
     match line {
-        [kind, rest @ ..] => read_kind(*kind as char, rest),
+        [kind, rest @ ..] => read_kind(char::from(*kind), rest),
         _ => None,
     }
 }

@@ -1,34 +1,31 @@
 // Lines as parts of the bytes that hold them.
-ghost use Rattle.std.specs.Prelude.{◌≡◌, ◌+◌, ◌^◌, ◌<◌, ◌≤◌, length, drop, Some, None, MatchOption, ◌==◌};
+ghost use Rattle.std.specs.Prelude.{◌≡◌, ◌+◌, ◌^◌, ◌<◌, length, Some, None, MatchOption, ◌==◌};
 ghost use Rattle.lines.specs.Cuts.{cut_at};
 
 use crate::cuts::cut;
 
-const LINE_END: u8 = 10;
+const LINE_END: u8 = b'\n';
 
 // Hands out the lines of a file, from the first on.
 #[derive(Clone, Copy)]
 pub struct LineReader<'a> {
-    // the bytes of the whole file
-    bytes: &'a [u8],
-    // where the next line begins
-    at: usize,
+    // the bytes behind the lines that were handed out
+    rest: &'a [u8],
     // how many lines were handed out
     count: usize,
-    ghost few: { count ≤ at },
-    ghost inside: { at ≤ length bytes.now },
-    ghost small: { length bytes.now < 2 ^ 64 },
+    ghost small: { count + length rest.now < 2 ^ 64 },
 }
 
 impl<'a> LineReader<'a> {
+    ghost use Rattle.lines.specs.Ahead.{left};
+
     // A reader at the first line.
     pub fn new(bytes: &'a [u8]) -> LineReader<'a>
-        ensures ahead { drop result.at result.bytes.now ≡ bytes.now }
+        ensures ahead { left result ≡ bytes.now }
         ensures count { result.count ≡ 0 }
     {
         LineReader {
-            bytes,
-            at: 0,
+            rest: bytes,
             count: 0,
         }
     }
@@ -42,20 +39,19 @@ impl<'a> LineReader<'a> {
 
     // Whether there is nothing behind the lines that were handed out.
     pub fn is_done(&self) -> bool
-        ensures { result ≡ (length (drop self.now.at self.now.bytes.now) == 0) }
+        ensures { result ≡ (length (left self.now) == 0) }
     {
-        self.at == self.bytes.len()
+        self.rest.is_empty()
     }
 
     // The next line, without the byte 10 that ends it; none where no such byte is left.
     pub fn next_line(&mut self) -> Option<&'a [u8]>
-        ensures line { MatchOption result (cut_at 10 (drop self.old.at self.old.bytes.now) ≡ None) (λ l. cut_at 10 (drop self.old.at self.old.bytes.now) ≡ Some (l.now, drop self.new.at self.new.bytes.now)) }
+        ensures line { MatchOption result (cut_at 10 (left self.old) ≡ None) (λ l. cut_at 10 (left self.old) ≡ Some (l.now, left self.new)) }
         ensures count { MatchOption result (self.new ≡ self.old) (λ _. self.new.count ≡ self.old.count + 1) }
-        ensures place { MatchOption result (self.new ≡ self.old) (λ l. self.new.at ≡ self.old.at + (length l.now + 1)) }
+        ensures place { MatchOption result (self.new ≡ self.old) (λ l. length (left self.old) ≡ length (left self.new) + (length l.now + 1)) }
     {
-        let bytes = self.bytes;
-        let (line, _) = cut(&bytes[self.at..], LINE_END)?;
-        self.at += line.len() + 1;
+        let (line, rest) = cut(self.rest, LINE_END)?;
+        self.rest = rest;
         self.count += 1;
         Some(line)
     }

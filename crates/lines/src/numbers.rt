@@ -1,29 +1,20 @@
 // Numbers in base ten.
-ghost use Rattle.std.specs.Prelude.{◌≡◌, ℕ, true, if◌then◌else◌, Some, None, nat_le};
+ghost use Rattle.std.specs.Prelude.{◌≡◌, ◌&&◌, if◌then◌else◌, Some, None, nat_le};
 ghost use Rattle.lines.specs.Numbers.{most, is_digit, longer, digits_from, number_in};
 
-fn is_digit(byte: u8) -> bool
-    ensures { result ≡ is_digit byte }
+// The number with one digit more, where the byte is a digit and the number still a 64-bit one.
+fn append(n: u64, byte: u8) -> Option<u64>
+    ensures { result ≡ (if is_digit byte && nat_le (longer n byte) most then Some (longer n byte) else None) }
 {
-    48 <= byte && byte <= 57
-}
-
-// The number with one digit more, where it is still a 64-bit one.
-fn append(n: u64, digit: u8) -> Option<u64>
-    ensures { is_digit digit ≡ true → result ≡ (if nat_le (longer n digit) most then Some (longer n digit) else None) }
-{
-    n.checked_mul(10)?
-        .checked_add(u64::from(digit.wrapping_sub(48)))
+    let digit = char::from(byte).to_digit(10)?;
+    n.checked_mul(10)?.checked_add(u64::from(digit))
 }
 
 fn digits(field: &[u8]) -> Option<u64>
     ensures { result ≡ digits_from 0 field.now }
 {
-    let mut n = 0u64;
+    let mut n = 0;
     for byte in field {
-        if !is_digit(*byte) {
-            return None;
-        }
         n = append(n, *byte)?;
     }
     Some(n)

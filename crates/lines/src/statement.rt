@@ -1,10 +1,10 @@
 // Reading a statement.
-ghost use Rattle.std.specs.Prelude.{◌≡◌, ◌<◌, Err, MatchResult};
+ghost use Rattle.std.specs.Prelude.{◌≡◌, Err, MatchResult};
 ghost use Rattle.capture.specs.Messages.{statement};
 ghost use Rattle.capture.specs.Stored.{stored_statement};
 ghost use Rattle.lines.specs.Format.{LessonMessage, no_statement, in_statement};
 ghost use Rattle.lines.specs.Values.{time_value};
-ghost use Rattle.lines.specs.Ahead.{ahead};
+ghost use Rattle.lines.specs.Ahead.{ahead, CountsOn};
 ghost use Rattle.lines.specs.Blocks.{ReadOn};
 
 use crate::line::Line;
@@ -20,7 +20,7 @@ pub(crate) fn read_progress(
     lines: &mut LineReader,
     rows: &mut StoredProgress<Time>,
 ) -> Result<bool, Malformed>
-    requires { lines.old.count < lines.old.at }
+    requires { CountsOn lines.old }
     ensures { MatchResult result (λ whole. (m : LessonMessage) × ReadOn (in_statement Part.Lower no_statement) lines.old lines.new (statement (stored_statement time_value rows.new)) whole m) (λ e. ahead (in_statement Part.Lower no_statement) lines.old ≡ Err e.line) }
 {
     rows.clear();

@@ -1,8 +1,8 @@
 // Reading a message of changes.
-ghost use Rattle.std.specs.Prelude.{◌≡◌, ◌<◌, [], Err, MatchResult};
+ghost use Rattle.std.specs.Prelude.{◌≡◌, [], Err, MatchResult};
 ghost use Rattle.capture.specs.Messages.{changes};
 ghost use Rattle.lines.specs.Format.{LessonMessage, in_changes};
-ghost use Rattle.lines.specs.Ahead.{ahead, changes_in};
+ghost use Rattle.lines.specs.Ahead.{ahead, changes_in, CountsOn};
 ghost use Rattle.lines.specs.Blocks.{ReadOn};
 
 use crate::line::Line;
@@ -18,7 +18,7 @@ pub(crate) fn read_updates(
     lines: &mut LineReader,
     updates: &mut StoredUpdates<Lesson, Time, Amount>,
 ) -> Result<bool, Malformed>
-    requires { lines.old.count < lines.old.at }
+    requires { CountsOn lines.old }
     ensures { MatchResult result (λ whole. (m : LessonMessage) × ReadOn (in_changes []) lines.old lines.new (changes (changes_in updates.new)) whole m) (λ e. ahead (in_changes []) lines.old ≡ Err e.line) }
 {
     updates.clear();

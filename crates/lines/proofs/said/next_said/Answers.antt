@@ -15,5 +15,5 @@ pub returns : goal.returns
 returns c = record {
   said = λ d. ahead_said d c.args.lines.now c.next_line.new.self c.in-Some.line.now c.in-Some.ensures.line c.in-Some.ensures.count c.in-Some-read_line.said c.in-Some-read_line.ensures;
   on = cut_shorter (left c.args.lines.now) (c.in-Some.line.now, left c.next_line.new.self) c.in-Some.ensures.line;
-  few = omega (arith, c.args.lines.now.few, c.in-Some.ensures.count, c.in-Some.ensures.place, said_some c.in-Some.line.now _ c.in-Some-read_line.ensures);
+  few = omega (arith, c.args.lines.now.small, c.in-Some.ensures.count, c.in-Some.ensures.place, said_some c.in-Some.line.now _ c.in-Some-read_line.ensures);
 }

@@ -1,7 +1,8 @@
 use Rattle.std.proofs.Common.{sym, refl, ap, ◌∙◌, subst, arith}
-use Rattle.lines.specs.Said.{line_value}
-use Rattle.lines.specs.Format.{in_statement, no_statement, step}
-use Rattle.lines.specs.Ahead.{follows, Hands}
+use Rattle.lines.specs.Format.{in_statement, no_statement}
+use Rattle.lines.specs.Ahead.{Hands}
+use Rattle.lines.specs.declared.part.Part.TheVariants.{Lower, Upper, Counts}
+use Rattle.lines.proofs.Reading.{went_on}
 use Rattle.lines.proofs.Adding.{lower_more, upper_more, count_more}
 use Rattle.lines.proofs.statement.read_progress.Goals as goal
 
@@ -15,7 +16,7 @@ loop-said-preserved-then-until_lower c =
     let line = subst (λ o. Hands o c.loop-said.lines after) c.in-Some.is c.in_ok-said.ensures in
     let more = lower_more c.loop-said.rows c.loop-said.whole inv.0 inv.2 c.push.result c.is_ok-whole.result c.is_ok-whole.ensures.value c.loop-said.part c.in-Lower.time c.push.new.self (sym c.until_lower.ensures ∙ c.if-until_lower.true) c.push.ensures in (
       more.0,
-      inv.1 ∙ line.said (in_statement c.loop-said.part inv.0) ∙ ap (λ x. follows (step (in_statement c.loop-said.part inv.0) (line_value x)) after) c.in-Lower.is ∙ ap (λ n. follows n after) more.1,
+      went_on (in_statement Lower no_statement) (in_statement c.loop-said.part inv.0) (in_statement c.loop-said.part more.0) c.args.lines.now c.loop-said.lines after _ _ inv.1 line c.in-Lower.is more.1,
       more.2,
       line.few,
       omega (arith, inv.4, line.on),
@@ -28,7 +29,7 @@ loop-said-preserved-then-until_upper c =
     let line = subst (λ o. Hands o c.loop-said.lines after) c.in-Some.is c.in_ok-said.ensures in
     let more = upper_more c.loop-said.rows c.loop-said.whole inv.0 inv.2 c.push-in-Upper.result c.is_ok-whole-in-Upper.result c.is_ok-whole-in-Upper.ensures.value c.loop-said.part c.in-Upper.time c.push-in-Upper.new.self (sym c.until_upper.ensures ∙ c.if-until_upper.true) c.push-in-Upper.ensures in (
       more.0,
-      inv.1 ∙ line.said (in_statement c.loop-said.part inv.0) ∙ ap (λ x. follows (step (in_statement c.loop-said.part inv.0) (line_value x)) after) c.in-Upper.is ∙ ap (λ n. follows n after) more.1,
+      went_on (in_statement Lower no_statement) (in_statement c.loop-said.part inv.0) (in_statement Upper more.0) c.args.lines.now c.loop-said.lines after _ _ inv.1 line c.in-Upper.is more.1,
       more.2,
       line.few,
       omega (arith, inv.4, line.on),
@@ -41,7 +42,7 @@ loop-said-preserved c =
     let line = subst (λ o. Hands o c.loop-said.lines after) c.in-Some.is c.in_ok-said.ensures in
     let more = count_more c.loop-said.rows c.loop-said.whole inv.0 inv.2 c.push-in-Count.result c.is_ok-whole-in-Count.result c.is_ok-whole-in-Count.ensures.value c.loop-said.part (c.in-Count.time, c.in-Count.n) c.push-in-Count.new.self c.push-in-Count.ensures in (
       more.0,
-      inv.1 ∙ line.said (in_statement c.loop-said.part inv.0) ∙ ap (λ x. follows (step (in_statement c.loop-said.part inv.0) (line_value x)) after) c.in-Count.is ∙ ap (λ n. follows n after) more.1,
+      went_on (in_statement Lower no_statement) (in_statement c.loop-said.part inv.0) (in_statement Counts more.0) c.args.lines.now c.loop-said.lines after _ _ inv.1 line c.in-Count.is more.1,
       more.2,
       line.few,
       omega (arith, inv.4, line.on),

@@ -1,15 +1,14 @@
-use Rattle.std.proofs.Common.{ℕ, [], ◌∷◌, ◌++◌, ap, ◌∙◌, subst, arith}
+use Rattle.std.proofs.Common.{ℕ, [], ◌∷◌, ◌++◌, refl, subst, arith}
 use Rattle.lattice.specs.declared.product.Product.{Product}
 use Rattle.timetable.specs.declared.week.Week.{Week}
 use Rattle.timetable.specs.declared.lesson.Lesson.{Lesson}
 use Rattle.timetable.specs.declared.amount.Amount.{Amount}
 use Rattle.timetable.specs.Lessons.{lesson_value, amount_value}
 use Rattle.capture.specs.Views.{change_of}
-use Rattle.lines.specs.Said.{line_value}
-use Rattle.lines.specs.Format.{in_changes, step}
-use Rattle.lines.specs.Ahead.{follows, Hands}
+use Rattle.lines.specs.Format.{in_changes}
+use Rattle.lines.specs.Ahead.{Hands}
 use Rattle.lines.specs.Values.{time_value}
-use Rattle.lines.proofs.Reading.{pushed}
+use Rattle.lines.proofs.Reading.{went_on, pushed}
 use Rattle.lines.proofs.updates.read_updates.Goals as goal
 
 pub loop-said-preserved : goal.loop-said-preserved
@@ -21,7 +20,7 @@ loop-said-preserved c =
     let change : Lesson × Product ℕ Week × Amount = (c.in-Update.lesson, c.in-Update.time, c.in-Update.amount) in
     let more = pushed value 64 c.loop-said.updates c.push.new.self inv.0 change c.push.result c.is_ok-whole.result c.loop-said.whole c.is_ok-whole.ensures.value inv.2 inv.3 c.push.ensures in (
       inv.0 ++ value change ∷ [],
-      inv.1 ∙ line.said (in_changes inv.0) ∙ ap (λ x. follows (step (in_changes inv.0) (line_value x)) after) c.in-Update.is,
+      went_on (in_changes []) (in_changes inv.0) (in_changes (inv.0 ++ value change ∷ [])) c.args.lines.now c.loop-said.lines after _ _ inv.1 line c.in-Update.is refl,
       more.0,
       more.1,
       line.few,
