@@ -4,7 +4,8 @@ use Rattle.frontier.specs.Frontiers.{leq, fits, inserted_all, pairwise, join, me
 use Rattle.frontier.specs.Tables.{Holds, frontier_size}
 use Rattle.frontiers.specs.declared.frontier_table.FrontierTable.{FrontierTable}
 use Rattle.frontiers.specs.declared.comparing.Comparison.{Comparison}
-use Rattle.frontiers.specs.Times.{time_value, at_or_before, later}
+use Rattle.lines.specs.Values.{time_value}
+use Rattle.frontiers.specs.Times.{at_or_before, later}
 
 -- the frontier that a list reduces to
 abbrev pub reduced : List (ℕ × ℕ) → List (ℕ × ℕ)

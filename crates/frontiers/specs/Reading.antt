@@ -4,7 +4,7 @@ use Rattle.frontiers.specs.declared.input.Expected.{Expected}
 use Rattle.frontiers.specs.declared.reading.Input.{Input}
 use Rattle.frontiers.specs.declared.fault.Fault.{Fault}
 use Rattle.frontiers.specs.declared.fault.Fault.TheVariants.{Malformed, Refused, Memory}
-use Rattle.frontiers.specs.Times.{time_value}
+use Rattle.lines.specs.Values.{time_value}
 use Rattle.frontiers.specs.Input.{Told}
 
 -- the two lists and the number of lines

@@ -4,13 +4,15 @@ ghost use Rattle.questions.specs.Answers.{Answered};
 ghost use Rattle.frontier.specs.Frontiers.{fits, pairwise, join, meet};
 ghost use Rattle.frontier.specs.Tables.{in_use, frontier_size};
 ghost use Rattle.frontiers.specs.Comparing.{reduced, Is, compare_asks, Compared};
-ghost use Rattle.frontiers.specs.Times.{time_value, at_or_before, later};
+ghost use Rattle.frontiers.specs.Times.{at_or_before, later};
+ghost use Rattle.lines.specs.Values.{time_value};
 
-use crate::Time;
 use crate::frontier_table::FrontierTable;
 use frontier::{antichain_less_equal, steps};
 use lattice::Timestamp;
+use lines::Time;
 use questions::Refusal;
+use std::fmt;
 
 // Two lists compared as frontiers.
 #[derive(Drop)]
@@ -24,6 +26,27 @@ pub struct Comparison {
     // the frontiers of both, and of all their joins
     pub meet: FrontierTable,
     pub join: FrontierTable,
+}
+
+fn yes_or_no(yes: bool) -> &'static str {
+    if yes { "yes" } else { "no" }
+}
+
+impl fmt::Display for Comparison {
+    fn fmt<W: fmt::Write>(&self, f: &mut fmt::Formatter<W>) -> fmt::Result {
+        let first = &self.first;
+        let second = &self.second;
+        let first_before = yes_or_no(self.first_before);
+        let second_before = yes_or_no(self.second_before);
+        let meet = &self.meet;
+        let join = &self.join;
+        writeln!(f, "first frontier:{first}")?;
+        writeln!(f, "second frontier:{second}")?;
+        writeln!(f, "first at or before second: {first_before}")?;
+        writeln!(f, "second at or before first: {second_before}")?;
+        writeln!(f, "meet, what both offices may rely on:{meet}")?;
+        writeln!(f, "join:{join}")
+    }
 }
 
 // The frontier that a list reduces to.

@@ -5,14 +5,18 @@ ghost use Rattle.frontiers.specs.declared.fault.Fault.TheVariants.{Refused as Re
 use crate::input::Expected;
 use questions::Refusal;
 use std::alloc::{AllocError, AllocFailed};
+use thiserror::Error;
 
 // Why there is nothing to tell.
-#[derive(Drop)]
+#[derive(Debug, Drop, Error)]
 pub enum Fault {
     // the number of the first malformed line, from 1, and what was expected there
+    #[error("line {0}: expected {1}")]
     Malformed(usize, Expected),
     // the question that the comparison answers no
+    #[error("refused, question {}: {}", .0.number(), .0)]
     Refused(Refusal),
+    #[error("out of memory")]
     Memory,
 }
 

@@ -1,7 +1,8 @@
 // A frontier in a table of its own.
 ghost use Rattle.std.specs.Prelude.{◌≡◌, ◌≤◌, take};
 
-use crate::Time;
+use lines::Time;
+use std::fmt;
 
 #[derive(Clone, Copy)]
 pub struct FrontierTable {
@@ -9,6 +10,18 @@ pub struct FrontierTable {
     pub times: [Time; 32],
     pub len: usize,
     ghost few: { len ≤ 32 },
+}
+
+impl fmt::Display for FrontierTable {
+    fn fmt<W: fmt::Write>(&self, f: &mut fmt::Formatter<W>) -> fmt::Result {
+        if self.len == 0 {
+            return f.write_str(" none");
+        }
+        for time in self.as_slice() {
+            write!(f, " ({}, {})", time.outer, time.inner)?;
+        }
+        Ok(())
+    }
 }
 
 impl FrontierTable {

@@ -1,24 +1,24 @@
 // Reading the two lists.
 ghost use Rattle.std.specs.Prelude.{◌≡◌, Some, None, Ok, Err, MatchOption, MatchResult};
 ghost use Rattle.frontiers.specs.Input.{side_of, letter_of, line_says};
-ghost use Rattle.frontiers.specs.Times.{time_value};
+ghost use Rattle.lines.specs.Values.{time_value};
 
-use crate::Time;
 use lattice::Product;
-use lines::{cut, number};
+use lines::{Time, cut, number};
+use std::fmt;
 use timetable::Week;
 
 const TAB: u8 = 9;
 
 // The list that a line belongs to.
-#[derive(Clone, Copy)]
+#[derive(Clone, Copy, Debug, PartialEq, Eq)]
 pub enum Side {
     First,
     Second,
 }
 
 // What a malformed line lacks.
-#[derive(Clone, Copy)]
+#[derive(Clone, Copy, Debug, PartialEq, Eq)]
 pub enum Expected {
     // the letter of a list, and a tab
     Kind,
@@ -28,6 +28,18 @@ pub enum Expected {
     Week,
     // byte 10 at the end of the line
     End,
+}
+
+impl fmt::Display for Expected {
+    fn fmt<W: fmt::Write>(&self, f: &mut fmt::Formatter<W>) -> fmt::Result {
+        f.write_str(match self {
+            Expected::Kind => "L or H, then a tab",
+            Expected::Round =>
+                "a round, 0 to 18446744073709551615 without leading zeros, then a tab",
+            Expected::Week => "a week, 0 or yyyyww with year 2000 to 2199 and week 01 to 52",
+            Expected::End => "byte 10 at the end of the line",
+        })
+    }
 }
 
 // The list that a letter names.
@@ -54,23 +66,11 @@ fn side_in(field: &[u8]) -> Option<Side>
 pub fn read_line(line: &[u8]) -> Result<(Side, Time), Expected>
     ensures { MatchResult result (λ p. line_says line.now ≡ Ok (p.0, time_value p.1)) (λ e. line_says line.now ≡ Err e) }
 {
-    let Some((kind, rest)) = cut(line, TAB) else {
-        return Err(Expected::Kind);
-    };
-    let Some(side) = side_in(kind) else {
-        return Err(Expected::Kind);
-    };
-    let Some((round, week)) = cut(rest, TAB) else {
-        return Err(Expected::Round);
-    };
-    let Some(outer) = number(round) else {
-        return Err(Expected::Round);
-    };
-    let Some(n) = number(week) else {
-        return Err(Expected::Week);
-    };
-    match Week::new(n) {
-        Ok(inner) => Ok((side, Product { outer, inner })),
-        Err(_) => Err(Expected::Week),
-    }
+    let (kind, rest) = cut(line, TAB).ok_or(Expected::Kind)?;
+    let side = side_in(kind).ok_or(Expected::Kind)?;
+    let (round, week) = cut(rest, TAB).ok_or(Expected::Round)?;
+    let outer = number(round).ok_or(Expected::Round)?;
+    let n = number(week).ok_or(Expected::Week)?;
+    let inner = Week::try_from(n).map_err(|_| Expected::Week)?;
+    Ok((side, Product { outer, inner }))
 }

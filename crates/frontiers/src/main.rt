@@ -12,16 +12,10 @@ mod reading;
 mod report;
 #[cfg(test)]
 mod tests;
-mod text;
 
-use lattice::Product;
 use report::report;
 use std::io::Read;
 use std::process::ExitCode;
-use timetable::Week;
-
-// A planning round and a week of it.
-pub type Time = Product<u64, Week>;
 
 fn main(rt: HostRuntime) -> anyhow::Result<ExitCode> {
     let mut bytes = Vec::new(rt.alloc());

@@ -1,13 +1,12 @@
 // Reading the two lists from the bytes of the input.
 ghost use Rattle.std.specs.Prelude.{◌≡◌, ℕ, ◌+◌, ◌^◌, ◌<◌, List, ◌∷◌, Ok, MatchResult, OnOk};
 ghost use Rattle.frontiers.specs.Input.{with_time, read_from, input_says};
-ghost use Rattle.frontiers.specs.Times.{time_value};
 ghost use Rattle.frontiers.specs.Reading.{told, Faulty};
+ghost use Rattle.lines.specs.Values.{time_value};
 
-use crate::Time;
 use crate::fault::Fault;
 use crate::input::{Expected, Side, read_line};
-use lines::cut;
+use lines::{Time, cut};
 use std::alloc::Global;
 
 const LINE_END: u8 = 10;

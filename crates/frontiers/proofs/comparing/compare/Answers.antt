@@ -2,7 +2,8 @@ use Rattle.std.proofs.Common.{◌≡◌, ℕ, List, [], ◌++◌, map, sym, ap, 
 use Rattle.questions.proofs.Asking.{asked_all}
 use Rattle.frontier.specs.Frontiers.{leq, fits, pairwise, join, meet}
 use Rattle.frontier.specs.Tables.{frontier_size}
-use Rattle.frontiers.specs.Times.{time_value, at_or_before, later}
+use Rattle.lines.specs.Values.{time_value}
+use Rattle.frontiers.specs.Times.{at_or_before, later}
 use Rattle.frontiers.specs.Comparing.{reduced}
 use Rattle.frontiers.proofs.Frontiers.{same_of, is_also, all_fit}
 use Rattle.frontiers.proofs.comparing.compare.Goals as goal

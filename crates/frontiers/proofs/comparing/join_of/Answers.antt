@@ -1,7 +1,8 @@
 use Rattle.std.proofs.Common.{map}
 use Rattle.frontier.specs.Frontiers.{pairwise}
 use Rattle.frontier.proofs.Filling.{made_few}
-use Rattle.frontiers.specs.Times.{time_value, at_or_before, later}
+use Rattle.lines.specs.Values.{time_value}
+use Rattle.frontiers.specs.Times.{at_or_before, later}
 use Rattle.frontiers.proofs.comparing.join_of.Goals as goal
 
 pub invariant_of-result : goal.invariant_of-result

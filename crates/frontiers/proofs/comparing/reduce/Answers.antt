@@ -1,6 +1,7 @@
 use Rattle.std.proofs.Common.{map}
 use Rattle.frontier.proofs.Filling.{made_few}
-use Rattle.frontiers.specs.Times.{time_value, at_or_before}
+use Rattle.lines.specs.Values.{time_value}
+use Rattle.frontiers.specs.Times.{at_or_before}
 use Rattle.frontiers.proofs.comparing.reduce.Goals as goal
 
 pub invariant_of-result : goal.invariant_of-result
