@@ -1,6 +1,6 @@
 -- How the input goes on behind a line.
-use Rattle.std.proofs.Common.{◌≡◌, ℕ, suc, ◌+◌, Bool, true, false, eqb, List, [], ◌∷◌, length, Some, None, Ok, Err, Result, refl, ap, ◌∙◌, arith}
-use Rattle.std.proofs.lemmas.Bool.{true≢false, eqb-true}
+use Rattle.std.proofs.Common.{◌≡◌, ℕ, ◌+◌, Bool, true, false, eqb, List, [], ◌∷◌, length, Some, None, Ok, Err, Result, refl, ap, ◌∙◌}
+use Rattle.std.proofs.lemmas.Bool.{true≢false}
 use Rattle.lines.specs.Cuts.{cut_at, split_from}
 use Rattle.lines.proofs.Cutting.{split_at, split_end}
 use Rattle.frontiers.specs.declared.input.Expected.{Expected}
@@ -32,10 +32,6 @@ module _ (l : Told) (rest line behind : List ℕ) (found : cut_at 10 rest ≡ So
 -- no line is left
 pub lines_done : (l : Told) (rest : List ℕ) → cut_at 10 rest ≡ None → says_from l rest ≡ ended rest l
 lines_done l rest e = ap (λ s. closed s.1 (read_from l s.0)) (split_end [] rest e)
-
-pub nothing_left : (l : Told) (rest : List ℕ) → eqb (length rest) 0 ≡ true → ended rest l ≡ Ok l
-nothing_left l [] e = refl
-nothing_left l (b ∷ bs) e = let z : suc (length bs) ≡ 0 = eqb-true (suc (length bs)) 0 e in absurd (omega arith)
 
 pub something_left : (l : Told) (rest : List ℕ) → eqb (length rest) 0 ≡ false → ended rest l ≡ Err (l.2 + 1, End)
 something_left l [] e = let z : ◌≡◌ {A = Bool} true false = e in absurd (true≢false z)

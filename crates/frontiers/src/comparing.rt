@@ -50,6 +50,7 @@ impl fmt::Display for Comparison {
 }
 
 // The frontier that a list reduces to.
+// Kept beside the next two: over a closure, no tactic finds what the closure promises of its table.
 fn reduce(list: &[Time]) -> Result<FrontierTable, Refusal>
     ensures { Answered result ((fits at_or_before frontier_size [] (map time_value list.now), 12) ∷ []) (λ f. Is f (reduced (map time_value list.now))) (Unit {0}) }
 {

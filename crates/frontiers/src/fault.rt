@@ -20,6 +20,7 @@ pub enum Fault {
     Memory,
 }
 
+// By hand: what `thiserror` writes says nothing of the fault that it makes.
 impl<X: Drop> From<AllocFailed<X>> for Fault {
     ghost from_gives = { λ _ f. f ≡ Memory };
 

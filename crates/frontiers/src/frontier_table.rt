@@ -4,6 +4,7 @@ ghost use Rattle.std.specs.Prelude.{◌≡◌, ◌≤◌, take};
 use lines::Time;
 use std::fmt;
 
+// Not an `ArrayVec`: a step fills a lent table of 32 (a rule of the project), and that lends none.
 #[derive(Clone, Copy)]
 pub struct FrontierTable {
     // the first `len` entries are in use
@@ -29,7 +30,6 @@ impl FrontierTable {
     pub fn as_slice(&self) -> &[Time]
         ensures { result.now ≡ take self.now.len self.now.times }
     {
-        let all = &self.times[..];
-        &all[0..self.len]
+        &self.times[..self.len]
     }
 }

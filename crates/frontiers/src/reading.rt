@@ -6,10 +6,8 @@ ghost use Rattle.lines.specs.Values.{time_value};
 
 use crate::fault::Fault;
 use crate::input::{Expected, Side, read_line};
-use lines::{Time, cut};
+use lines::{LineReader, Time};
 use std::alloc::Global;
-
-const LINE_END: u8 = 10;
 
 // The two lists, in the order of their lines.
 #[derive(Drop)]
@@ -20,28 +18,31 @@ pub struct Input {
     pub lines: usize,
 }
 
-// Puts a time last in its list.
-fn push_time(input: &mut Input, side: Side, time: Time) -> Result<(), Fault>
-    requires { input.old.lines + 1 < 2 ^ 64 }
-    ensures { MatchResult result (λ _. told input.new ≡ with_time side (time_value time) (told input.old)) (λ f. f ≡ Fault.Memory) }
-{
-    match side {
-        Side::First => input.first.push(time)?,
-        Side::Second => input.second.push(time)?,
+impl Input {
+    // Puts a time last in its list.
+    #[tactic(auto, using(std::proofs::lemmas::List::map_push))]
+    fn push(&mut self, side: Side, time: Time) -> Result<(), Fault>
+        requires { self.old.lines + 1 < 2 ^ 64 }
+        ensures { MatchResult result (λ _. told self.new ≡ with_time side (time_value time) (told self.old)) (λ f. f ≡ Fault.Memory) }
+    {
+        match side {
+            Side::First => self.first.push(time)?,
+            Side::Second => self.second.push(time)?,
+        }
+        self.lines += 1;
+        Ok(())
     }
-    input.lines += 1;
-    Ok(())
-}
 
-// Adds the time of one line more.
-fn add_line(input: &mut Input, line: &[u8]) -> Result<(), Fault>
-    requires { input.old.lines + 1 < 2 ^ 64 }
-    ensures count { OnOk result (input.new.lines ≡ input.old.lines + 1) }
-    ensures said { (rest : List (List ℕ)) → MatchResult result (λ _. read_from (told input.old) (line.now ∷ rest) ≡ read_from (told input.new) rest) (λ f. Faulty f (read_from (told input.old) (line.now ∷ rest))) }
-{
-    match read_line(line) {
-        Ok((side, time)) => push_time(input, side, time),
-        Err(expected) => Err(Fault::Malformed(input.lines + 1, expected)),
+    // Adds the time of one line more.
+    fn add_line(&mut self, line: &[u8]) -> Result<(), Fault>
+        requires { self.old.lines + 1 < 2 ^ 64 }
+        ensures count { OnOk result (self.new.lines ≡ self.old.lines + 1) }
+        ensures said { (rest : List (List ℕ)) → MatchResult result (λ _. read_from (told self.old) (line.now ∷ rest) ≡ read_from (told self.new) rest) (λ f. Faulty f (read_from (told self.old) (line.now ∷ rest))) }
+    {
+        match read_line(line) {
+            Ok((side, time)) => self.push(side, time),
+            Err(expected) => Err(Fault::Malformed(self.lines + 1, expected)),
+        }
     }
 }
 
@@ -54,12 +55,11 @@ pub fn read(heap: Global, bytes: &[u8]) -> Result<Input, Fault>
         second: Vec::new(heap),
         lines: 0,
     };
-    let mut rest = bytes;
-    while let Some((line, behind)) = cut(rest, LINE_END) {
-        add_line(&mut input, line)?;
-        rest = behind;
+    let mut lines = LineReader::new(bytes);
+    while let Some(line) = lines.next_line() {
+        input.add_line(line)?;
     }
-    if !rest.is_empty() {
+    if !lines.is_done() {
         return Err(Fault::Malformed(input.lines + 1, Expected::End));
     }
     Ok(input)

@@ -17,11 +17,7 @@ const NOWHERE: Pair = Product { outer: 9, inner: 9 };
 
 // Times of which no two are ordered.
 fn unordered() -> [Pair; 40] {
-    let mut times = [NOWHERE; 40];
-    for i in 0..40usize {
-        times[i] = pair(i as u64, 40 - i as u64);
-    }
-    times
+    std::array::from_fn(|i| pair(i as u64, 40 - i as u64))
 }
 
 #[test]
