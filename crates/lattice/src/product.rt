@@ -34,6 +34,7 @@ impl<X: Lattice, Y: Lattice> Lattice for Product<X, Y> {
 
     ghost meets = { Prim.search rules };
 
+    // Kept beside `meet`: the operation of the parts is all that differs, and all that each says.
     fn join(&self, other: &Product<X, Y>) -> Product<X, Y> {
         Product {
             outer: self.outer.join(&other.outer),

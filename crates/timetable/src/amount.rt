@@ -25,6 +25,7 @@ fn is_amount(n: i64) -> bool
 
 impl Amount {
     // The amount of a number.
+    // Kept beside `Week::new`: the cast has to stand behind the test, and the types differ.
     pub fn new(n: i64) -> Result<Amount, Refusal>
         ensures { Answered result ((is_amount n, 14) ∷ []) (λ a. amount_value a ≡ n) (Unit {0}) }
     {

@@ -53,6 +53,7 @@ impl Lesson {
         }
     }
 
+    // Kept beside the next two: which number it is and its last are all that each says.
     pub fn class(&self) -> u16
         ensures value { result ≡ (lesson_value self.now).0 }
         ensures form { T (is_class result) }

@@ -100,6 +100,7 @@ impl Lattice for Week {
 
     ghost meets = { Prim.search rules };
 
+    // Kept beside `meet`: the one word that differs is all that each says.
     fn join(&self, other: &Week) -> Week {
         Week {
             number: self.number().max(other.number()),

@@ -61,6 +61,7 @@ const AMOUNTS: [(i64, bool); 5] = [
     (1_001, false),
 ];
 
+// Kept beside the test of weeks: one for both would need a reading of numbers of both types.
 #[test]
 fn amounts_have_their_form(rt: HostRuntime) {
     for (n, good) in AMOUNTS {
