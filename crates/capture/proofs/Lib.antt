@@ -16,5 +16,4 @@ pub mod Standings
 pub mod Invariant
 pub mod LawHolds
 pub mod MadeWell
-pub mod Lengths
 pub mod Queues

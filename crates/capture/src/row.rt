@@ -1,5 +1,5 @@
 // Lists in stored form: a row of places, the first of them in use.
-ghost use Rattle.std.specs.Prelude.{◌≡◌, ◌≤◌, [], ◌∷◌, ◌++◌, length, ⊤};
+ghost use Rattle.std.specs.Prelude.{◌≡◌, ◌≤◌, [], ◌∷◌, ◌++◌, length, take, nat_lt, Err, is_ok, OnErr, ⊤};
 
 use questions::Refusal;
 use std::alloc::AllocError;
@@ -57,7 +57,9 @@ impl<X: Copy, const N: usize> Row<X, N> {
 
     // Puts a value last, where there is a place for it.
     pub fn push(&mut self, item: X) -> Result<(), Refusal>
-        ensures { Stores row (has_places N) result self.old self.new (row self.old ++ item ∷ []) }
+        ensures room { is_ok result ≡ nat_lt (length (row self.old)) N }
+        ensures after { row self.new ≡ take N (row self.old ++ item ∷ []) }
+        ensures refused { OnErr result ((result ≡ Err Refusal.LongMessage) × (self.new ≡ self.old)) }
     {
         if self.len == N {
             return Err(Refusal::LongMessage);

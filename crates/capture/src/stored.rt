@@ -58,16 +58,6 @@ impl<T: PartialOrder + Copy> StoredProgress<T> {
         }
     }
 
-    // Puts a statement that is not too long in place of the one that is stored.
-    pub(crate) fn fill(&mut self, item: Progress<'_, T>)
-        requires { short_statement (statement_of T.PartialOrder.value item) ≡ true }
-        ensures { stored_statement T.PartialOrder.value self.new ≡ statement_of T.PartialOrder.value item.entry }
-    {
-        self.lower.fill(item.lower);
-        self.upper.fill(item.upper);
-        self.counts.fill(item.counts);
-    }
-
     // Puts a statement in place of the one that is stored, where it is not too long.
     pub fn store(&mut self, item: Progress<'_, T>) -> Result<(), Refusal>
         ensures { Stores (stored_statement T.PartialOrder.value) short_statement result self.old self.new (statement_of T.PartialOrder.value item.entry) }
@@ -75,7 +65,9 @@ impl<T: PartialOrder + Copy> StoredProgress<T> {
         if !item.is_short() {
             return Err(Refusal::LongMessage);
         }
-        self.fill(item);
+        self.lower.fill(item.lower);
+        self.upper.fill(item.upper);
+        self.counts.fill(item.counts);
         Ok(())
     }
 }
@@ -128,16 +120,13 @@ impl<D: Same + Copy, T: PartialOrder + Copy, R: Same + Copy> StoredMessage<D, T,
     pub fn store(&mut self, item: Message<'_, D, T, R>) -> Result<(), Refusal>
         ensures { Stores (stored_message D.Same.value T.PartialOrder.value R.Same.value) short result self.old self.new (message_of D.Same.value T.PartialOrder.value R.Same.value item.entry) }
     {
-        if !item.is_short() {
-            return Err(Refusal::LongMessage);
-        }
         match item {
             Message::Updates(changes) => {
-                self.updates.fill(changes);
+                self.updates.store(changes)?;
                 self.sort = Sort::Updates;
             }
             Message::Progress(statement) => {
-                self.progress.fill(statement);
+                self.progress.store(statement)?;
                 self.sort = Sort::Progress;
             }
         }

@@ -19,6 +19,7 @@ pub trait Writer<D: Same, T: Timestamp, R: Same>: Sized {
     ghost committed: { Self → Bool };
 
     // Offers a message: `None` where it was taken, else how many milliseconds to wait before the next offer.
+    // The `Option` is the Rust's: the project keeps the names and the answers of the calls that the Rust has.
     fn poll(&mut self, item: &Message<'_, D, T, R>) -> Option<u64>
         ensures { Polled result (ready self.old) (taken self.old) (message_of D.Same.value T.PartialOrder.value R.Same.value item.now) (taken self.new) };
 

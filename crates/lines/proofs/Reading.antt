@@ -1,14 +1,7 @@
 -- How a file goes on behind a line.
-use Rattle.std.proofs.Common.{◌≡◌, ℕ, ◌+◌, ◌<◌, ◌≤◌, min, Bool, true, false, ◌&&◌, leb, List, [], ◌∷◌, ◌++◌, map, length, take, Some, None, Ok, Err, Result, sym, refl, ap, ◌∙◌, arith}
-use Rattle.std.specs.Prelude.{is_ok}
-use Rattle.std.proofs.lemmas.List.{length-take, length_push, length-map, map_push, take_all, take-append-le}
-use Rattle.std.proofs.Math.Bool.{and-false}
-use Rattle.std.proofs.lemmas.Bool.{leb-true, leb-false, le-leb, lt-leb}
-use Rattle.questions.specs.declared.Refusal.{Refusal}
-use Rattle.questions.specs.Questions.{first_no}
-use Rattle.questions.proofs.Asking.{asked_all}
-use Rattle.capture.specs.Rows.{Stores, has_places, row}
-use Rattle.capture.specs.declared.row.Row.{Row}
+use Rattle.std.proofs.Common.{◌≡◌, ℕ, zero, suc, ◌+◌, ◌<◌, min, Bool, ◌&&◌, ltb, leb, List, [], ◌∷◌, ◌++◌, map, length, take, Some, None, Err, sym, refl, ap, ◌∙◌, arith}
+use Rattle.std.proofs.lemmas.List.{length-take, length_push, length-map, map_push, take-map}
+use Rattle.std.proofs.lemmas.Bool.Decides.{nat_tests}
 use Rattle.lines.specs.declared.line.Line.{Line}
 use Rattle.lines.specs.Cuts.{cut_at, split_from}
 use Rattle.lines.specs.Said.{Said, line_says, line_value}
@@ -67,26 +60,17 @@ module _ (d : Draft) (r s : LineReader) (line : List ℕ) (found : cut_at 10 (le
 pub went_on : (first d e : Draft) (before r s : LineReader) (x y : Line) → ahead first before ≡ ahead d r → HandsOut x r s → x ≡ y → step d (line_value y) ≡ goes_on e → ahead first before ≡ ahead e s
 went_on first d e before r s x y so_far line is next = so_far ∙ line.said d ∙ ap (λ z. follows (step d (line_value z)) s) is ∙ ap (λ n. follows n s) next
 
--- a question answered no
-asked_no : (b : Bool) (n m : ℕ) → first_no ((b, n) ∷ []) ≡ Some m → b ≡ false
-asked_no true n m e = let z : ◌≡◌ {A = ℕ} 0 1 = cc in absurd (omega arith)
-asked_no false n m e = refl
+-- what is taken from a front is what is taken from the whole
+take_front : {A : Type 0} (n : ℕ) (xs ys : List A) → take n (take n xs ++ ys) ≡ take n (xs ++ ys)
+take_front zero xs ys = refl
+take_front (suc n) [] ys = refl
+take_front (suc n) (x ∷ xs) ys = ap (λ l. x ∷ l) (take_front n xs ys)
 
--- a list that is kept up to its n-th value takes one value more, and whether it fits goes by whether the row took it
-pub pushed : {X A : Type 0} (value : X → A) (n : ℕ) (before after : Row X n) (all : List A) (x : X) (told : Result Unit Refusal) (room fit : Bool) → room ≡ is_ok told → map value (row before) ≡ take n all → fit ≡ leb (length all) n → Stores row (has_places n) told before after (row before ++ x ∷ []) → (map value (row after) ≡ take n (all ++ value x ∷ [])) × ((fit && room) ≡ leb (length (all ++ value x ∷ [])) n)
-pushed value n before after all x (Ok u) room fit took kept fits h =
-    let place : length (row before ++ x ∷ []) ≤ n = leb-true _ _ (asked_all (leb (length (row before ++ x ∷ [])) n) 2 [] h.0).0 in
-    let same : length (row before) ≡ min n (length all) = sym (length-map (row before) value) ∙ ap length kept ∙ length-take n all in
-    let grown : length (row before ++ x ∷ []) ≡ length (row before) + 1 = length_push (row before) x in
+-- a list that is kept up to its n-th value takes one value more, and whether it fits goes by whether there was a place
+pub pushed : {X A : Type 0} (value : X → A) (n : ℕ) (xs ys : List X) (all : List A) (x : X) (fit room : Bool) → map value xs ≡ take n all → fit ≡ leb (length all) n → room ≡ ltb (length xs) n → ys ≡ take n (xs ++ x ∷ []) → (map value ys ≡ take n (all ++ value x ∷ [])) × ((fit && room) ≡ leb (length (all ++ value x ∷ [])) n)
+pushed value n xs ys all x fit room kept fits had after =
+    let same : length xs ≡ min n (length all) = sym (length-map xs value) ∙ ap length kept ∙ length-take n all in
     let more : length (all ++ value x ∷ []) ≡ length all + 1 = length_push all (value x) in (
-      ap (map value) h.1 ∙ map_push value (row before) x ∙ ap (λ l. l ++ value x ∷ []) (kept ∙ take_all n all (omega arith)) ∙ sym (take_all n (all ++ value x ∷ []) (omega arith)),
-      ap (λ b. fit && b) took ∙ ap (λ b. b && true) (fits ∙ le-leb _ _ (omega arith)) ∙ sym (le-leb _ _ (omega arith)),
-    )
-pushed value n before after all x (Err f) room fit took kept fits h =
-    let full : n < length (row before ++ x ∷ []) = leb-false _ _ (asked_no (leb (length (row before ++ x ∷ [])) n) 2 _ h.0) in
-    let same : length (row before) ≡ min n (length all) = sym (length-map (row before) value) ∙ ap length kept ∙ length-take n all in
-    let grown : length (row before ++ x ∷ []) ≡ length (row before) + 1 = length_push (row before) x in
-    let more : length (all ++ value x ∷ []) ≡ length all + 1 = length_push all (value x) in (
-      ap (λ r. map value (row r)) h.1 ∙ kept ∙ sym (take-append-le n all (value x ∷ []) (omega arith)),
-      ap (λ b. fit && b) took ∙ and-false fit ∙ sym (lt-leb _ _ (omega arith)),
+      ap (map value) after ∙ sym (take-map value n (xs ++ x ∷ [])) ∙ ap (take n) (map_push value xs x) ∙ ap (λ l. take n (l ++ value x ∷ [])) kept ∙ take_front n all (value x ∷ []),
+      grind (arith, nat_tests),
     )

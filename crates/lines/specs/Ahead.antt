@@ -1,5 +1,5 @@
 -- What is ahead of a reader of lines.
-use Rattle.std.specs.Prelude.{◌≡◌, ℕ, ◌+◌, ◌^◌, ◌<◌, List, map, length, Some, None, Err, Option, Result}
+use Rattle.std.specs.Prelude.{◌≡◌, ℕ, ◌+◌, ◌^◌, ◌<◌, List, map, length, Err, Result}
 use Rattle.lattice.specs.declared.product.Product.{Product}
 use Rattle.timetable.specs.declared.week.Week.{Week}
 use Rattle.timetable.specs.declared.lesson.Lesson.{Lesson}
@@ -42,7 +42,7 @@ pub record HandsOut (x : Line) (before after : LineReader) : Type 0 where
   pub on : length (left after) < length (left before)
   pub few : CountsOn after
 
--- a line was handed out, or there was none left
-abbrev pub Hands : Option Line → LineReader → LineReader → Type 0
-Hands (Some x) before after = HandsOut x before after
-Hands None before after = (after ≡ before) × ((d : Draft) → ahead d before ≡ closes d before.count (left before))
+-- there was no line left
+pub record NoneLeft (before after : LineReader) : Type 0 where
+  pub same : after ≡ before
+  pub said : (d : Draft) → ahead d before ≡ closes d before.count (left before)

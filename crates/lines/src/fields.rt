@@ -1,8 +1,9 @@
 // The fields of a line, taken from its front.
 ghost use Rattle.std.specs.Prelude.{◌≡◌, Some, None, MatchOption};
+ghost use Rattle.timetable.specs.Weeks.{is_week};
 ghost use Rattle.timetable.specs.Lessons.{lesson_value, amount_value};
 ghost use Rattle.capture.specs.Views.{change_of, count_of};
-ghost use Rattle.lines.specs.Fields.{behind_tab, number_then, time_in, time_then, lesson_then, signed_in, amount_in, change_in, count_in};
+ghost use Rattle.lines.specs.Fields.{only, behind_tab, number_then, time_in, time_then, lesson_then, signed_in, amount_in, change_in, count_in};
 ghost use Rattle.lines.specs.Values.{time_value, Finds, FindsThen};
 
 use crate::Time;
@@ -43,9 +44,7 @@ impl<'a> Fields<'a> {
     fn time(&mut self) -> Option<Time>
         ensures { FindsThen result time_value (time_then self.old.rest.now) self.new.rest.now }
     {
-        let outer = self.number()?;
-        let inner = Week::new(self.number()?).ok()?;
-        Some(Product { outer, inner })
+        time_of(self.number()?, self.number()?)
     }
 
     // A class, a room and a period, with a tab behind each.
@@ -62,9 +61,7 @@ impl<'a> Fields<'a> {
     pub(crate) fn last_time(mut self) -> Option<Time>
         ensures { Finds result time_value (time_in self.entry.rest.now) }
     {
-        let outer = self.number()?;
-        let inner = Week::new(number(self.rest)?).ok()?;
-        Some(Product { outer, inner })
+        time_of(self.number()?, number(self.rest)?)
     }
 
     // The lesson, the time and the amount of a change.
@@ -85,6 +82,14 @@ impl<'a> Fields<'a> {
         let n = u32::try_from(number(self.rest)?).ok()?;
         Some((time, n))
     }
+}
+
+// A round, and the week of a number.
+fn time_of(outer: u64, week: u64) -> Option<Time>
+    ensures { Finds result time_value (only (is_week week) (outer, week)) }
+{
+    let inner = Week::new(week).ok()?;
+    Some(Product { outer, inner })
 }
 
 // A number that may have a minus before it, where it may be an amount's.

@@ -5,7 +5,7 @@ use Rattle.lines.proofs.Reading.{ahead_malformed, ahead_said, no_line, said_some
 use Rattle.lines.proofs.said.next_said.Goals as goal
 
 pub returns-in_default : goal.returns-in_default
-returns-in_default c = (c.in_default.ensures.count, λ d. no_line d c.args.lines.now.count (left c.args.lines.now) c.in_default.ensures.line)
+returns-in_default c = record { same = c.in_default.ensures.count; said = λ d. no_line d c.args.lines.now.count (left c.args.lines.now) c.in_default.ensures.line }
 
 pub returns-in_default-read_line : goal.returns-in_default-read_line
 returns-in_default-read_line c = λ d.
