@@ -1,5 +1,5 @@
 -- Feed, of the message that a block has.
-use Rattle.std.proofs.Common.{◌≡◌, ℕ, Bool, true, false, leb, List, length, take, Some, None, ap, ◌∙◌}
+use Rattle.std.proofs.Common.{◌≡◌, ℕ, Bool, true, false, leb, List, length, Some, None, ap}
 use Rattle.std.proofs.lemmas.List.{take_all}
 use Rattle.std.proofs.lemmas.Bool.{cond-false, leb-true, and_parts}
 use Rattle.questions.specs.Questions.{first_no}
@@ -21,9 +21,7 @@ front_whole (statement s) e =
     let lower = take_all statement_times s.lower (leb-true (length s.lower) statement_times lower-rest.0) in
     let upper = take_all statement_times s.upper (leb-true (length s.upper) statement_times upper-rest.0) in
     let counts = take_all statement_counts s.counts (leb-true (length s.counts) statement_counts upper-rest.1) in
-    ap (λ l. statement (record { lower = l; upper = take statement_times s.upper; counts = take statement_counts s.counts })) lower
-    ∙ ap (λ l. statement (record { lower = s.lower; upper = l; counts = take statement_counts s.counts })) upper
-    ∙ ap (λ l. statement (record { lower = s.lower; upper = s.upper; counts = l })) counts
+    rw (lower, upper, counts)
 
 answered_no : {X S : Type 0} (asks : List (Bool × ℕ)) (n : ℕ) (s : S) (made : X × S) → first_no asks ≡ Some n → answer asks s made ≡ (refused n, s)
 answered_no asks n s made e = ap (λ o. elim o [ Some n ↦ (refused n, s) | None ↦ (accepted made.0, made.1) ]) e

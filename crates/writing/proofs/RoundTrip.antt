@@ -1,24 +1,23 @@
 -- Messages that are written as lines read back.
-use Rattle.std.proofs.Common.{◌≡◌, ℕ, suc, ◌+◌, ◌≤◌, true, false, eqb, leb, List, [], ◌∷◌, ◌++◌, ℤ, pos, negsuc, Some, Ok, decimal, sym, refl, ap, ◌∙◌, append_assoc, arith}
+use Rattle.std.proofs.Common.{◌≡◌, ℕ, suc, ◌+◌, ◌≤◌, true, false, eqb, List, [], ◌∷◌, ◌++◌, ℤ, pos, negsuc, Some, Ok, decimal, sym, refl, ap, ◌∙◌, append_assoc, arith}
 use lib.Signed.{mag}
 use Rattle.std.specs.List.{flat_map, AllByRecursion}
 use Rattle.std.proofs.ByRecursion.{All-append}
 use Rattle.std.specs.Fmt.{signed_decimal}
 use Rattle.std.proofs.lemmas.List.{append-nil}
-use Rattle.std.proofs.lemmas.Bool.{cond-true, le-leb, ne_eqb}
+use Rattle.std.proofs.lemmas.Bool.{le-leb, ne_eqb}
 use Rattle.std.proofs.lemmas.Bool.Decides.{nat_tests}
 use Rattle.timetable.specs.Weeks.{weeks_in, is_week}
 use Rattle.timetable.specs.Lessons.{is_lesson, is_amount}
 use Rattle.capture.specs.Messages.{changes, statement}
-use Rattle.lines.specs.Numbers.{most, number_in}
+use Rattle.lines.specs.Numbers.{most}
 use Rattle.lines.specs.Cuts.{cut_at}
-use Rattle.lines.specs.Fields.{then, number_then, signed_in, time_in, time_then, lesson_then, amount_in}
+use Rattle.lines.specs.Fields.{time_in, time_then, lesson_then, amount_in}
 use Rattle.lines.specs.Said.{Said, opens_changes, opens_statement, a_change, a_lower, an_upper, a_count, ends, line_says}
 use Rattle.lines.specs.Format.{LessonChange, LessonMessage, Draft, outside, in_changes, in_statement, no_statement, goes_on, completes, step, with_message, says_from}
 use Rattle.writing.specs.Writing.{number_before, time_before, lesson_before, line_of, change_text, time_text, count_text, lines_of, FormedTime, FormedChange, FormedCount, Formed}
 use Rattle.lines.specs.declared.part.Part.{Part}
 use Rattle.lines.specs.declared.part.Part.TheVariants.{Lower, Upper, Counts}
-use Rattle.lines.proofs.Fielding.{then_some}
 use Rattle.writing.proofs.Spelling.{Free, cut_free, free_decimal, number_decimal, number_then_decimal, signed_back}
 use Rattle.lines.proofs.Reading.{line_goes_on, line_completes}
 
@@ -34,48 +33,31 @@ amount_small (pos n) e = grind (arith, nat_tests)
 amount_small (negsuc n) e = grind (arith, nat_tests)
 
 time_back : (t : ℕ × ℕ) → FormedTime t → time_in (decimal t.0 ++ number_before t.1 []) ≡ Some t
-time_back t f =
-    then_some (number_then (decimal t.0 ++ number_before t.1 [])) (t.0, decimal t.1 ++ []) _ (number_then_decimal t.0 (decimal t.1 ++ []) f.0)
-    ∙ then_some (number_in (decimal t.1 ++ [])) t.1 _ (ap number_in (append-nil (decimal t.1)) ∙ number_decimal t.1 (omega (arith, week_small t.1 f.1)))
-    ∙ cond-true (is_week t.1) _ _ f.1
+time_back t f = rw (number_then_decimal t.0 (decimal t.1 ++ []) f.0, append-nil (decimal t.1), number_decimal t.1 (omega (arith, week_small t.1 f.1)), f.1)
 
 time_then_back : (t : ℕ × ℕ) (rest : List ℕ) → FormedTime t → time_then (decimal t.0 ++ number_before t.1 (9 ∷ rest)) ≡ Some (t, rest)
-time_then_back t rest f =
-    then_some (number_then (decimal t.0 ++ number_before t.1 (9 ∷ rest))) (t.0, decimal t.1 ++ 9 ∷ rest) _ (number_then_decimal t.0 (decimal t.1 ++ 9 ∷ rest) f.0)
-    ∙ then_some (number_then (decimal t.1 ++ 9 ∷ rest)) (t.1, rest) _ (number_then_decimal t.1 rest (omega (arith, week_small t.1 f.1)))
-    ∙ cond-true (is_week t.1) _ _ f.1
+time_then_back t rest f = rw (number_then_decimal t.0 (decimal t.1 ++ 9 ∷ rest) f.0, number_then_decimal t.1 rest (omega (arith, week_small t.1 f.1)), f.1)
 
 lesson_then_back : (l : ℕ × ℕ × ℕ) (rest : List ℕ) → is_lesson l ≡ true → lesson_then (decimal l.0 ++ number_before l.1 (number_before l.2 (9 ∷ rest))) ≡ Some (l, rest)
 lesson_then_back l rest f =
     let small = lesson_small l f in
-    then_some (number_then (decimal l.0 ++ number_before l.1 (number_before l.2 (9 ∷ rest)))) (l.0, decimal l.1 ++ number_before l.2 (9 ∷ rest)) _ (number_then_decimal l.0 (decimal l.1 ++ number_before l.2 (9 ∷ rest)) (omega (arith, small.0)))
-    ∙ then_some (number_then (decimal l.1 ++ number_before l.2 (9 ∷ rest))) (l.1, decimal l.2 ++ 9 ∷ rest) _ (number_then_decimal l.1 (decimal l.2 ++ 9 ∷ rest) (omega (arith, small.1)))
-    ∙ then_some (number_then (decimal l.2 ++ 9 ∷ rest)) (l.2, rest) _ (number_then_decimal l.2 rest (omega (arith, small.2)))
-    ∙ cond-true (is_lesson l) _ _ f
+    rw (number_then_decimal l.0 (decimal l.1 ++ number_before l.2 (9 ∷ rest)) (omega (arith, small.0)), number_then_decimal l.1 (decimal l.2 ++ 9 ∷ rest) (omega (arith, small.1)), number_then_decimal l.2 rest (omega (arith, small.2)), f)
 
 amount_back : (z : ℤ) → is_amount z ≡ true → amount_in (signed_decimal z) ≡ Some z
-amount_back z f = then_some (signed_in (signed_decimal z)) z _ (signed_back z (omega (arith, amount_small z f))) ∙ cond-true (is_amount z) _ _ f
+amount_back z f = rw (signed_back z (omega (arith, amount_small z f)), f)
 
 -- what each kind of line says when it is written
 pub change_says : (c : LessonChange) → FormedChange c → line_says (change_text c) ≡ Some (a_change c)
-change_says c f =
-    ap (λ o. then o (λ x. Some (a_change x)))
-    (then_some (time_then (decimal c.time.0 ++ number_before c.time.1 (lesson_before c.what (9 ∷ signed_decimal c.amount)))) (c.time, decimal c.what.0 ++ number_before c.what.1 (number_before c.what.2 (9 ∷ signed_decimal c.amount))) _ (time_then_back c.time (decimal c.what.0 ++ number_before c.what.1 (number_before c.what.2 (9 ∷ signed_decimal c.amount))) f.0)
-    ∙ then_some (lesson_then (decimal c.what.0 ++ number_before c.what.1 (number_before c.what.2 (9 ∷ signed_decimal c.amount)))) (c.what, signed_decimal c.amount) _ (lesson_then_back c.what (signed_decimal c.amount) f.1)
-    ∙ then_some (amount_in (signed_decimal c.amount)) c.amount _ (amount_back c.amount f.2))
+change_says c f = rw (time_then_back c.time (decimal c.what.0 ++ number_before c.what.1 (number_before c.what.2 (9 ∷ signed_decimal c.amount))) f.0, lesson_then_back c.what (signed_decimal c.amount) f.1, amount_back c.amount f.2)
 
 pub lower_says : (t : ℕ × ℕ) → FormedTime t → line_says (time_text 76 t) ≡ Some (a_lower t)
-lower_says t f = ap (λ o. then o (λ x. Some (a_lower x))) (time_back t f)
+lower_says t f = rw (time_back t f)
 
 pub upper_says : (t : ℕ × ℕ) → FormedTime t → line_says (time_text 72 t) ≡ Some (an_upper t)
-upper_says t f = ap (λ o. then o (λ x. Some (an_upper x))) (time_back t f)
+upper_says t f = rw (time_back t f)
 
 pub count_says : (c : (ℕ × ℕ) × ℕ) → FormedCount c → line_says (count_text c) ≡ Some (a_count c)
-count_says c f =
-    ap (λ o. then o (λ x. Some (a_count x)))
-    (then_some (time_then (decimal c.0.0 ++ number_before c.0.1 (number_before c.1 []))) (c.0, decimal c.1 ++ []) _ (time_then_back c.0 (decimal c.1 ++ []) f.0)
-    ∙ then_some (number_in (decimal c.1 ++ [])) c.1 _ (ap number_in (append-nil (decimal c.1)) ∙ number_decimal c.1 (omega (arith, f.1)))
-    ∙ cond-true (leb c.1 4294967295) _ _ (le-leb c.1 4294967295 f.1))
+count_says c f = rw (time_then_back c.0 (decimal c.1 ++ []) f.0, append-nil (decimal c.1), number_decimal c.1 (omega (arith, f.1)), le-leb c.1 4294967295 f.1)
 
 -- no line has byte 10 within
 free_number : (n : ℕ) (rest : List ℕ) → n ≤ most → Free 10 rest → Free 10 (number_before n rest)

@@ -1,16 +1,15 @@
 -- Numbers that are written read back.
-use Rattle.std.proofs.Common.{◌≡◌, ℕ, suc, ◌+◌, ◌*◌, ◌/◌, ◌%◌, ◌^◌, ◌<◌, ◌≤◌, Bool, true, false, cond, not, ◌&&◌, eqb, leb, List, [], ◌∷◌, ◌++◌, get_or, ℤ, pos, negsuc, neg_ℤ, Some, None, decimal, sym, refl, ap, ◌∙◌, subst, arith}
+use Rattle.std.proofs.Common.{◌≡◌, ℕ, suc, ◌+◌, ◌*◌, ◌/◌, ◌%◌, ◌^◌, ◌<◌, ◌≤◌, Bool, true, false, cond, ◌&&◌, eqb, leb, List, [], ◌∷◌, ◌++◌, get_or, ℤ, pos, negsuc, Some, None, decimal, sym, refl, ap, ◌∙◌, subst, arith}
 use lib.Signed.{mag}
 use Rattle.std.specs.Fmt.{signed_decimal}
 use Rattle.std.specs.List.{AllByRecursion}
 use Rattle.std.proofs.ByRecursion.{All-append}
 use Rattle.std.proofs.lemmas.Fmt.{decimal_by_steps, decimal_digit, first_decimal}
-use Rattle.std.proofs.lemmas.Bool.{cond-true, cond-false, and_from, ne_eqb, le-leb}
+use Rattle.std.proofs.lemmas.Bool.{ne_eqb}
 use Rattle.std.proofs.lemmas.Bool.Decides.{nat_tests}
 use Rattle.lines.specs.Numbers.{most, is_digit, longer, digits_from, number_in}
-use Rattle.lines.specs.Cuts.{with_byte, cut_at}
-use Rattle.lines.specs.Fields.{then, only, number_then, signed_in}
-use Rattle.lines.proofs.Fielding.{then_some}
+use Rattle.lines.specs.Cuts.{cut_at}
+use Rattle.lines.specs.Fields.{then, number_then, signed_in}
 
 -- the byte is not among the bytes
 abbrev pub Free : ℕ → List ℕ → Type 0
@@ -18,8 +17,8 @@ Free m bs = AllByRecursion (λ b. eqb b m ≡ false) bs
 
 -- bytes without the mark are cut off whole
 pub cut_free : (m : ℕ) (xs ys : List ℕ) → Free m xs → cut_at m (xs ++ m ∷ ys) ≡ Some (xs, ys)
-cut_free m [] ys p = cond-true (eqb m m) _ _ (grind (arith, nat_tests))
-cut_free m (x ∷ xs) ys p = cond-false (eqb x m) _ _ p.0 ∙ ap (with_byte x) (cut_free m xs ys p.1)
+cut_free m [] ys p = grind (arith, nat_tests)
+cut_free m (x ∷ xs) ys p = rw (p.0, cut_free m xs ys p.1)
 
 -- digits are no tabs, no line ends and no minus
 pub free_decimal : (m n : ℕ) → m < 48 → n < 2 ^ 64 → Free m (decimal n)
@@ -32,9 +31,7 @@ digits_push n (b ∷ bs) d =
     elim (is_digit b && leb (longer n b) most) as (λ v. cond v (digits_from (longer n b) (bs ++ d ∷ [])) None ≡ then (cond v (digits_from (longer n b) bs) None) (λ m. digits_from m (d ∷ []))) [ true ↦ digits_push (longer n b) bs d | false ↦ refl ]
 
 last_digit : (n d k : ℕ) → d < 10 → 10 * n + d ≡ k → k ≤ most → digits_from n ((48 + d) ∷ []) ≡ Some k
-last_digit n d k small e h =
-    let is : longer n (48 + d) ≡ k = omega arith in
-    cond-true (is_digit (48 + d) && leb (longer n (48 + d)) most) _ _ (and_from (is_digit (48 + d)) (leb (longer n (48 + d)) most) (and_from (leb 48 (48 + d)) (leb (48 + d) 57) (le-leb 48 (48 + d) (omega arith)) (le-leb (48 + d) 57 (omega arith))) (le-leb (longer n (48 + d)) most (omega arith))) ∙ ap Some is
+last_digit n d k small e h = grind (arith, nat_tests)
 
 digits_decimal : (n : ℕ) → n < 2 ^ 64 → n ≤ most → digits_from 0 (decimal n) ≡ Some n
 digits_decimal n h =
@@ -42,7 +39,7 @@ digits_decimal n h =
 
 first_not_zero : (ds : List ℕ) (n : ℕ) → 48 < get_or ds 0 0 → digits_from 0 ds ≡ Some n → number_in ds ≡ Some n
 first_not_zero [] n h e = absurd (omega arith)
-first_not_zero (b ∷ bs) n h e = cond-false (eqb b 48) _ _ (ne_eqb b 48 (λ k. omega arith)) ∙ e
+first_not_zero (b ∷ bs) n h e = grind (arith, nat_tests)
 
 -- a number that is written reads back
 pub number_decimal : (n : ℕ) → n ≤ most → number_in (decimal n) ≡ Some n
@@ -55,13 +52,13 @@ number_decimal n le =
     case (eqb n 0) refl
 
 pub number_then_decimal : (n : ℕ) (rest : List ℕ) → n ≤ most → number_then (decimal n ++ 9 ∷ rest) ≡ Some (n, rest)
-number_then_decimal n rest le = then_some (cut_at 9 (decimal n ++ 9 ∷ rest)) (decimal n, rest) _ (cut_free 9 (decimal n) rest (free_decimal 9 n (omega arith) (omega arith))) ∙ then_some (number_in (decimal n)) n _ (number_decimal n le)
+number_then_decimal n rest le = rw (cut_free 9 (decimal n) rest (free_decimal 9 n (omega arith) (omega arith)), number_decimal n le)
 
 no_minus : (ds : List ℕ) (n : ℕ) → Free 45 ds → number_in ds ≡ Some n → signed_in ds ≡ Some (pos n)
 no_minus [] n f e = cc
-no_minus (b ∷ bs) n f e = cond-false (eqb b 45) _ _ f.0 ∙ then_some (number_in (b ∷ bs)) n _ e
+no_minus (b ∷ bs) n f e = grind (arith, nat_tests)
 
 -- a signed number that is written reads back
 pub signed_back : (z : ℤ) → mag z < 2 ^ 63 → signed_in (signed_decimal z) ≡ Some z
 signed_back (pos n) h = no_minus (decimal n) n (free_decimal 45 n (omega arith) (omega arith)) (number_decimal n (omega arith))
-signed_back (negsuc n) h = then_some (number_in (decimal (suc n))) (suc n) (λ k. only (not (eqb k 0)) (neg_ℤ (pos k))) (number_decimal (suc n) (omega arith)) ∙ ap (λ b. only (not b) (negsuc n)) (ne_eqb (suc n) 0 (λ e. omega arith))
+signed_back (negsuc n) h = rw (number_decimal (suc n) (omega arith), ne_eqb (suc n) 0 (λ e. omega arith))
