@@ -1,11 +1,10 @@
 -- Which waiting statement acts next, by its place, and what its act leaves waiting.
-use Rattle.std.proofs.Common.{◌≡◌, ℕ, suc, ◌+◌, ◌-◌, ◌<◌, ◌≤◌, Bool, true, false, cond, not, List, [], ◌∷◌, ◌++◌, map, length, get_or, take, drop, Some, None, filter, Option, sym, refl, ap, ◌∙◌, ⊎_elim, add-one, one-add, arith}
+use Rattle.std.proofs.Common.{◌≡◌, ℕ, suc, ◌+◌, ◌<◌, ◌≤◌, Bool, true, false, cond, not, List, [], ◌∷◌, ◌++◌, length, get_or, take, drop, Some, None, filter, Option, sym, refl, ap, ◌∙◌, ⊎_elim, add-one, one-add, arith}
 use Rattle.std.specs.List.{prefix_len}
 use Rattle.std.proofs.lemmas.List.Elements.{filter-append}
 use Rattle.std.proofs.lemmas.List.{drop_more, take-append-drop, get_or-map, get_or-take, length-take-le}
 use Rattle.std.proofs.lemmas.Bool.{cond-true, cond-false, cases_Bool}
 use Rattle.frontier.specs.Tables.{in_use}
-use Rattle.frontier.proofs.Tables.{sub_zero}
 use Rattle.capture.specs.Messages.{Statement}
 use Rattle.capture.specs.Statements.{ready, first_ready}
 
@@ -52,11 +51,7 @@ kept_without p xs k d h e =
     let gone : filter p (drop k xs) ≡ filter p rest = ap (filter p) (drop_more xs k d h ∙ ap (λ n. get_or xs k d ∷ drop n xs) (add-one k)) ∙ cond-false (p (get_or xs k d)) (get_or xs k d ∷ filter p rest) (filter p rest) e in
     filter-append p (take k xs) rest ∙ ap (λ l. filter p (take k xs) ++ l) (sym gone) ∙ sym (filter-append p (take k xs) (drop k xs)) ∙ ap (filter p) (take-append-drop k xs)
 
--- the place of the first that can act, as the code finds it
-module _ {X Y A : Type 0} (below : A → A → Bool) (value : X → A) (stored : Y → Statement A) (F : List X) (W : List Y) (times len at : ℕ) (found_at : at ≡ prefix_len (unready below (map value (take (times - 0) F))) (map stored (take (len - 0) W))) where
-  pub placed_at : at ≡ prefix_len (unready below (in_use value times F)) (in_use stored len W)
-  placed_at = found_at ∙ ap (λ k. prefix_len (unready below (in_use value k F)) (map stored (take (len - 0) W))) (sub_zero times) ∙ ap (λ k. prefix_len (unready below (in_use value times F)) (in_use stored k W)) (sub_zero len)
-
-  pub chosen_at : (y : Y) (d : Statement A) → y ≡ get_or W at y → at < len → len ≤ length W → get_or (in_use stored len W) (prefix_len (unready below (in_use value times F)) (in_use stored len W)) d ≡ stored y
-  chosen_at y d is h long =
-      ap (λ k. get_or (in_use stored len W) k d) (sym placed_at) ∙ get_or-map stored (take len W) at y d (omega (arith, length-take-le len W long)) ∙ ap stored (get_or-take len W at y h ∙ sym is)
+-- the first that can act, as the code finds it
+pub chosen_at : {Y A : Type 0} (below : A → A → Bool) (f : List A) (stored : Y → Statement A) (W : List Y) (len at : ℕ) → at ≡ prefix_len (unready below f) (in_use stored len W) → (y : Y) (d : Statement A) → y ≡ get_or W at y → at < len → len ≤ length W → get_or (in_use stored len W) (prefix_len (unready below f) (in_use stored len W)) d ≡ stored y
+chosen_at below f stored W len at place y d is h long =
+    ap (λ k. get_or (in_use stored len W) k d) (sym place) ∙ get_or-map stored (take len W) at y d (omega (arith, length-take-le len W long)) ∙ ap stored (get_or-take len W at y h ∙ sym is)

@@ -8,16 +8,19 @@
 mod changes;
 mod copies;
 mod edges;
+mod old;
 mod statements;
+mod tables;
 mod weighing;
 
 pub use changes::{lower_counts, take_fresh};
 pub use copies::{append_entries, copy_progress};
 pub use edges::{keep_beyond, lower_edge};
+pub use old::advance;
 pub use statements::{
-    LARGEST_COUNT, Lengths, add_counts, advance, are_sized, is_counted_once, is_inside, is_sized,
-    is_small,
+    LARGEST_COUNT, Lengths, add_counts, are_sized, is_counted_once, is_inside, is_sized, is_small,
 };
+pub use tables::ProgressTables;
 pub use weighing::{Weighed, weigh_fresh};
 
 // The entries that a table for a reader's counts has at least, and the counts that it has at most.

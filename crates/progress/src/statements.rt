@@ -117,7 +117,7 @@ pub fn add_counts<T: PartialOrder + Copy>(
 }
 
 // Whether a waiting statement can act: its lower list is at or before the progress frontier.
-fn is_ready<T: PartialOrder + Copy>(entry: &StoredProgress<T>, frontier: &[T]) -> bool
+pub(crate) fn is_ready<T: PartialOrder + Copy>(entry: &StoredProgress<T>, frontier: &[T]) -> bool
     ensures { result ≡ ready T.below (map T.value frontier.now) (stored_statement T.value entry.now) }
 {
     antichain_less_equal(entry.view().lower, frontier)
@@ -131,7 +131,10 @@ fn is_passed<T: PartialOrder + Copy>(entry: &StoredProgress<T>, frontier: &[T]) 
 }
 
 // The place of the first waiting statement that can act, or how many wait where none can.
-fn first_ready<T: PartialOrder + Copy>(waiting: &[StoredProgress<T>], frontier: &[T]) -> usize
+pub(crate) fn first_ready<T: PartialOrder + Copy>(
+    waiting: &[StoredProgress<T>],
+    frontier: &[T],
+) -> usize
     ensures { result ≡ prefix_len (λ s. not (ready T.below (map T.value frontier.now) s)) (map (stored_statement T.value) waiting.now) }
 {
     for (i, e) in waiting.iter().enumerate() {
@@ -144,7 +147,7 @@ fn first_ready<T: PartialOrder + Copy>(waiting: &[StoredProgress<T>], frontier: 
 
 // Keeps those of the first `len` statements that are not passed, in their order, and tells how many
 // they are.
-fn drop_passed<T: PartialOrder + Copy>(
+pub(crate) fn drop_passed<T: PartialOrder + Copy>(
     waiting: &mut [StoredProgress<T>],
     len: usize,
     frontier: &[T],
@@ -165,84 +168,8 @@ fn drop_passed<T: PartialOrder + Copy>(
     k
 }
 
-// A statement acts: its counts that are not behind the progress frontier are added, its upper list
-// is joined to the frontier, and the statements that this passes no longer wait.
-fn act<T: Timestamp + Copy>(
-    statement: Progress<'_, T>,
-    frontier: &mut [T],
-    counts: &mut [(T, i64)],
-    waiting: &mut [StoredProgress<T>],
-    lengths: Lengths,
-    scratch: &mut [T],
-) -> Result<Lengths, Refusal>
-    requires { (ProgressSized lengths frontier.old counts.old waiting.old) × (frontier_size ≤ length scratch.old) }
-    ensures { Answered result
-        (act_asks (time_of T.PartialOrder.below T.Lattice.joined T.Timestamp.start) (statement_of T.PartialOrder.value statement.entry) (progress_of T.PartialOrder.value lengths frontier.old counts.old waiting.old))
-        (λ n. HoldsProgress T.PartialOrder.value n frontier.new counts.new waiting.new (acted (time_of T.PartialOrder.below T.Lattice.joined T.Timestamp.start) (statement_of T.PartialOrder.value statement.entry) (progress_of T.PartialOrder.value lengths frontier.old counts.old waiting.old)))
-        (Unit {0}) }
-{
-    let len = lengths.frontier;
-    let added = add_counts(counts, lengths.counts, &frontier[0..len], statement.counts)?;
-    let times = steps::join_into(statement.upper, &frontier[0..len], scratch)?;
-    steps::copy_entries(scratch, frontier, times);
-    let left = drop_passed(waiting, lengths.waiting, &frontier[0..times]);
-    Ok(Lengths {
-        frontier: times,
-        counts: added,
-        waiting: left,
-    })
-}
-
-// Waiting statements act, the first that can each time, until none can or as many turns are over.
-fn drain<T: Timestamp + Copy>(
-    turns: usize,
-    frontier: &mut [T],
-    counts: &mut [(T, i64)],
-    waiting: &mut [StoredProgress<T>],
-    lengths: Lengths,
-    scratch: &mut [T],
-) -> Result<Lengths, Refusal>
-    requires { (ProgressSized lengths frontier.old counts.old waiting.old) × (frontier_size ≤ length scratch.old) }
-    ensures { Answered result
-        (drain_asks (time_of T.PartialOrder.below T.Lattice.joined T.Timestamp.start) turns (progress_of T.PartialOrder.value lengths frontier.old counts.old waiting.old))
-        (λ n. HoldsProgress T.PartialOrder.value n frontier.new counts.new waiting.new (drained (time_of T.PartialOrder.below T.Lattice.joined T.Timestamp.start) turns (progress_of T.PartialOrder.value lengths frontier.old counts.old waiting.old)))
-        (Unit {0}) }
-{
-    let mut n = lengths;
-    for _ in 0..turns {
-        let (len, times) = (n.waiting, n.frontier);
-        let all = &waiting[..];
-        let at = first_ready(&all[0..len], &frontier[0..times]);
-        if at >= len {
-            return Ok(n);
-        }
-        let next = waiting[at];
-        n = act(next.view(), frontier, counts, waiting, n, scratch)?;
-    }
-    Ok(n)
-}
-
-// A statement acts, and then waiting ones, as long as there is one that can.
-fn act_in_turn<T: Timestamp + Copy>(
-    statement: Progress<'_, T>,
-    frontier: &mut [T],
-    counts: &mut [(T, i64)],
-    waiting: &mut [StoredProgress<T>],
-    lengths: Lengths,
-    scratch: &mut [T],
-) -> Result<Lengths, Refusal>
-    requires { (ProgressSized lengths frontier.old counts.old waiting.old) × (frontier_size ≤ length scratch.old) }
-    ensures { Answered result
-        (turns_asks (time_of T.PartialOrder.below T.Lattice.joined T.Timestamp.start) lengths.waiting (statement_of T.PartialOrder.value statement.entry) (progress_of T.PartialOrder.value lengths frontier.old counts.old waiting.old))
-        (λ n. HoldsProgress T.PartialOrder.value n frontier.new counts.new waiting.new (drained (time_of T.PartialOrder.below T.Lattice.joined T.Timestamp.start) lengths.waiting (acted (time_of T.PartialOrder.below T.Lattice.joined T.Timestamp.start) (statement_of T.PartialOrder.value statement.entry) (progress_of T.PartialOrder.value lengths frontier.old counts.old waiting.old))))
-        (Unit {0}) }
-{
-    let n = act(statement, frontier, counts, waiting, lengths, scratch)?;
-    drain(lengths.waiting, frontier, counts, waiting, n, scratch)
-}
-
 // A statement waits: it is stored after the others.
-fn wait<T: PartialOrder + Copy>(
+pub(crate) fn wait<T: PartialOrder + Copy>(
     statement: Progress<'_, T>,
     waiting: &mut [StoredProgress<T>],
     len: usize,
@@ -261,7 +188,7 @@ fn wait<T: PartialOrder + Copy>(
 }
 
 // What every statement is asked, whatever comes of it: questions 2, 5, 6 and 7.
-fn check<T: PartialOrder>(statement: Progress<'_, T>) -> Result<(), Refusal>
+pub(crate) fn check<T: PartialOrder>(statement: Progress<'_, T>) -> Result<(), Refusal>
     ensures { Answered result (made_asks T.below (statement_of T.value statement.entry)) (λ _. Unit {0}) (Unit {0}) }
 {
     if !statement.is_short() {
@@ -301,56 +228,4 @@ pub fn are_sized<T: PartialOrder>(
     let statements = is_sized(WAITING_SIZE, lengths.waiting, waiting.len());
     let spare = is_sized(FRONTIER_SIZE, 0, scratch.len());
     times && (sums && (statements && spare))
-}
-
-// A statement that is not too long is dropped, acts, or waits.
-fn dispatch<T: Timestamp + Copy>(
-    statement: Progress<'_, T>,
-    frontier: &mut [T],
-    counts: &mut [(T, i64)],
-    waiting: &mut [StoredProgress<T>],
-    lengths: Lengths,
-    scratch: &mut [T],
-) -> Result<Lengths, Refusal>
-    requires { (ProgressSized lengths frontier.old counts.old waiting.old) × ((frontier_size ≤ length scratch.old) × (short_statement (statement_of T.PartialOrder.value statement) ≡ true)) }
-    ensures { Answered result
-        (course_asks (time_of T.PartialOrder.below T.Lattice.joined T.Timestamp.start) (statement_of T.PartialOrder.value statement.entry) (progress_of T.PartialOrder.value lengths frontier.old counts.old waiting.old))
-        (λ n. HoldsProgress T.PartialOrder.value n frontier.new counts.new waiting.new (advanced (time_of T.PartialOrder.below T.Lattice.joined T.Timestamp.start) (statement_of T.PartialOrder.value statement.entry) (progress_of T.PartialOrder.value lengths frontier.old counts.old waiting.old)))
-        (Unit {0}) }
-{
-    let len = lengths.frontier;
-    if antichain_less_equal(statement.upper, &frontier[0..len]) {
-        return Ok(lengths);
-    }
-    if antichain_less_equal(statement.lower, &frontier[0..len]) {
-        return act_in_turn(statement, frontier, counts, waiting, lengths, scratch);
-    }
-    let n = wait(statement, waiting, lengths.waiting)?;
-    Ok(Lengths {
-        frontier: len,
-        counts: lengths.counts,
-        waiting: n,
-    })
-}
-
-// A statement comes to a reader whose progress stands in the tables: it is dropped, or acts and lets
-// others act, or waits.  Tells how much of each table is in use then.
-pub fn advance<T: Timestamp + Copy>(
-    statement: Progress<'_, T>,
-    frontier: &mut [T],
-    counts: &mut [(T, i64)],
-    waiting: &mut [StoredProgress<T>],
-    lengths: Lengths,
-    scratch: &mut [T],
-) -> Result<Lengths, Refusal>
-    ensures { Answered result
-        ((progress_sized lengths frontier.old counts.old waiting.old scratch.old, 1) ∷ statement_asks (time_of T.PartialOrder.below T.Lattice.joined T.Timestamp.start) (statement_of T.PartialOrder.value statement.entry) (progress_of T.PartialOrder.value lengths frontier.old counts.old waiting.old))
-        (λ n. HoldsProgress T.PartialOrder.value n frontier.new counts.new waiting.new (advanced (time_of T.PartialOrder.below T.Lattice.joined T.Timestamp.start) (statement_of T.PartialOrder.value statement.entry) (progress_of T.PartialOrder.value lengths frontier.old counts.old waiting.old)))
-        (Unit {0}) }
-{
-    if !are_sized(lengths, frontier, counts, waiting, scratch) {
-        return Err(Refusal::ShortTable);
-    }
-    check(statement)?;
-    dispatch(statement, frontier, counts, waiting, lengths, scratch)
 }
