@@ -1,5 +1,5 @@
 -- Counting in a scratch table: how it goes on from change to change.
-use Rattle.std.proofs.Common.{◌≡◌, ℕ, zero, suc, ◌+◌, ◌<◌, ◌≤◌, max, Bool, true, ◌&&◌, leb, List, [], ◌∷◌, ◌++◌, length, ℤ, pos, negsuc, ◌+ℤ◌, Ok, Err, Result, sym, refl, ap, ◌∙◌, arith}
+use Rattle.std.proofs.Common.{◌≡◌, ℕ, zero, suc, ◌+◌, ◌<◌, ◌≤◌, max, Bool, ◌&&◌, leb, List, [], ◌∷◌, ◌++◌, length, ℤ, pos, negsuc, ◌+ℤ◌, Ok, Err, Result, sym, refl, ap, ◌∙◌, arith}
 use Rattle.std.proofs.Math.Bool.{and-true}
 use Rattle.std.proofs.lemmas.Bool.{cond_both, le-leb}
 use Rattle.std.proofs.lemmas.Bool.Decides.{nat_tests}
@@ -9,7 +9,7 @@ use Rattle.lattice.specs.Orders.{at_once}
 use Rattle.questions.specs.declared.Refusal.{Refusal}
 use Rattle.questions.specs.Answers.{Answered}
 use Rattle.frontier.specs.Counts.{entry, stopped, added, added_all, room}
-use Rattle.frontier.specs.Tables.{in_use, Holds, table_asks, counted}
+use Rattle.frontier.specs.Tables.{in_use, table_asks, counted}
 use Rattle.frontier.proofs.Tables.{length_in_use, table_fits}
 use Rattle.frontier.proofs.Filling.{adding, all_append, fit_append}
 

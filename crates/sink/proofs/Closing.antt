@@ -8,7 +8,7 @@ use Rattle.frontier.specs.Frontiers.{inserted_all}
 use Rattle.frontier.specs.Tables.{in_use}
 use Rattle.frontier.proofs.Beyond.{beyond_inserted_all}
 use Rattle.capture.specs.Kinds.{Kinds}
-use Rattle.capture.specs.Messages.{Statement, Message, statement, short_statement}
+use Rattle.capture.specs.Messages.{Message, statement, short_statement}
 use Rattle.capture.specs.Views.{count_of}
 use Rattle.capture.specs.Sender.{Sender, told, announced, retained, stating, moved, reduced, close_asks, close, finish_asks, finish}
 use Rattle.sink.proofs.Sizes.{leaves}

@@ -1,5 +1,4 @@
 pub mod Asking
-pub mod Queues
 pub mod Additions
 pub mod Parting
 pub mod Sizes

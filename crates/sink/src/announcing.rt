@@ -46,6 +46,7 @@ pub(crate) fn announce<T: PartialOrder + Copy>(
         (λ n. Holds (count_of T.value) n table.new (announced T.below (map T.value upper.now) (map (counted T.value) counts.now)))
         (Unit {0}) }
 {
+    // counted by hand: the places are those of what is written, and a chain would not tell how many
     let mut n = 0usize;
     for c in counts {
         if !is_beyond(upper, &c.0) {

@@ -1,33 +1,18 @@
-use Rattle.std.proofs.Common.{◌<◌, ◌≤◌, leb, [], map, length, Some, sym, ap, ◌∙◌, arith, w64, SFits, rules}
-use Rattle.std.proofs.lemmas.Result.{err_from_is_err_and}
+use Rattle.std.proofs.Common.{◌<◌, leb, [], map, length, sym, ap, ◌∙◌, arith, w64, SFits, rules}
 use Rattle.std.proofs.lemmas.Int.{to_z-of_z}
-use Rattle.questions.specs.Questions.{number_of}
-use Rattle.questions.proofs.Asking.{ask_next, ask_here, asked_all}
+use Rattle.questions.proofs.Asking.{asked_all}
 use Rattle.frontier.specs.Tables.{counted}
-use Rattle.frontier.proofs.Tables.{length_in_use}
-use Rattle.frontier.proofs.Walks.{next, walked}
+use Rattle.frontier.proofs.Walks.{next}
 use Rattle.capture.specs.Sizes.{largest_count}
 use Rattle.capture.specs.Sender.{told as as_told}
 use Rattle.capture.specs.Views.{count_of}
 use Rattle.capture.proofs.Queues.{pushed}
-use Rattle.sink.proofs.Parting.{only_no, passes, writes, too_large, announced_all}
+use Rattle.sink.proofs.Parting.{passes, writes}
 use Rattle.sink.proofs.announcing.announce.Goals as goal
 use Rattle.sink.proofs.announcing.announce.Goals.{then-not-is_beyond+in_ok-count, else-not-is_beyond}
 
 pub offset_bounds-table-n : goal.offset_bounds-table-n
 offset_bounds-table-n g c = let h : c.loop-c.n < length c.args.table.now = omega (arith, c.requires, c.loop-c.invariant.0) in search rules
-
-pub returns-in_err-count : goal.returns-in_err-count
-returns-in_err-count g c =
-    let o = g.T.PartialOrder in
-    let x = c.c-item.result in
-    let fits : SFits w64 x.1 = search rules in
-    let told = simp to_z-of_z at c.in_err-count.ensures in
-    let large = only_no (leb (as_told x.1) largest_count) 5 (number_of c.in_err-count.field-0.0) told.0 in
-    let turn = next (counted o.value) c.args.counts.now c.loop-c.c-index x c.loop-c-test.true c.c-item.is (λ ys. ys) in
-    let stop = too_large o.below (map o.value c.args.upper.now) (counted o.value x) _ _ _ _ turn c.loop-c.invariant.1 (sym c.is_beyond.ensures ∙ c.if-not-is_beyond.true) large.0 in
-    let p = err_from_is_err_and c.from_residual.result c.from_residual.ensures.1 in
-    rw (p.1, p.2) (ask_here _ 5 [] stop ∙ ap Some (sym large.1), tt)
 
 pub loop-c-preserved : goal.loop-c-preserved
 loop-c-preserved g c =
@@ -45,11 +30,3 @@ loop-c-preserved g c =
       | else-not-is_beyond w ↦
           rw (w.table-is, w.n-is) (omega (arith, c.loop-c.invariant.0), passes o.below upper (counted o.value x) _ _ _ _ turn c.loop-c.invariant.1 (sym c.is_beyond.ensures ∙ w.if-not-is_beyond.false))
     ]
-
-pub returns : goal.returns
-returns g c =
-    let o = g.T.PartialOrder in
-    let long : c.loop-c.n ≤ length c.loop-c.table = omega (arith, c.requires, c.loop-c.invariant.0) in
-    let none = walked (counted o.value) c.args.counts.now c.loop-c.c-index (λ ys. ys) c.loop-c-test.false in
-    let d = announced_all o.below (map o.value c.args.upper.now) _ _ _ none c.loop-c.invariant.1 in
-    (ask_next _ 5 [] d.0, (d.1, ap length (sym d.1) ∙ length_in_use (count_of o.value) c.loop-c.n c.loop-c.table long))

@@ -1,7 +1,6 @@
-use Rattle.std.proofs.Common.{◌≡◌, ℕ, ◌+◌, ◌<◌, ◌≤◌, [], ◌∷◌, ◌++◌, map, length, take, pos, ap, sym, ◌∙◌, arith}
+use Rattle.std.proofs.Common.{◌≡◌, ◌+◌, ◌<◌, ◌≤◌, [], ◌∷◌, ◌++◌, map, length, take, pos, ap, sym, ◌∙◌, arith}
 use Rattle.std.proofs.lemmas.List.{take_all, take_more, map_push}
-use Rattle.frontier.specs.Counts.{added_all, room}
-use Rattle.frontier.specs.Tables.{in_use, Holds, counted}
+use Rattle.frontier.specs.Tables.{in_use, counted}
 use Rattle.frontier.proofs.Tables.{length_in_use}
 use Rattle.capture.specs.Sizes.{sender_counts}
 use Rattle.capture.specs.Sender.{raised}

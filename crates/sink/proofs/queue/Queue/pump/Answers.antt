@@ -1,4 +1,4 @@
-use Rattle.std.proofs.Common.{◌≡◌, ◌-◌, ◌≤◌, not, length, take, ap, ◌∙◌, subst, arith}
+use Rattle.std.proofs.Common.{◌-◌, not, length, ap, ◌∙◌, subst, arith}
 use Rattle.std.proofs.lemmas.List.{length-take-le}
 use Rattle.std.proofs.lemmas.Bool.{lt-ltb}
 use Rattle.capture.specs.Posts.{post}

@@ -1,4 +1,4 @@
-use Rattle.std.proofs.Common.{◌≡◌, ◌≤◌, true, ◌&&◌, cond, leb, [], ◌∷◌, map, length, take, Some, None, ap, sym, ◌∙◌, refl, ⊎_elim, arith}
+use Rattle.std.proofs.Common.{◌≤◌, ◌&&◌, cond, leb, map, length, take, Some, None, ap, sym, ◌∙◌, refl, ⊎_elim, arith}
 use Rattle.std.proofs.lemmas.Bool.{and_from, and_left, and_right, le-leb, lt-leb}
 use Rattle.std.proofs.lemmas.List.{length-map, length-take}
 use Rattle.std.proofs.lemmas.Result.{err_from_is_err_and}
@@ -22,11 +22,16 @@ returns-then-not-are_sized g c =
     let short = ⊎_elim (λ h. and_left _ (upper && announced) (sym c.are_sized.ensures.value ∙ h)) (⊎_elim (λ h. and_right _ (upper && announced) (and_left upper announced (lt-leb 32 (length c.args.upper.now) h.1))) (λ h. and_right _ (upper && announced) (and_right upper announced (lt-leb 256 (length c.args.announced.now) h.2)))) c.then-not-are_sized.either in
     λ t. (no_here _ short refl, (refl, refl, refl, refl))
 
+pub returns-then-not-advances : goal.returns-then-not-advances
+returns-then-not-advances g c =
+    let long = and_from _ _ (sym c.are_sized.ensures.value ∙ c.if-not-are_sized.false) (and_from _ _ (le-leb 32 (length c.args.upper.now) c.if-upper-lt-FRONTIER_SIZE.false) (le-leb 256 (length c.args.announced.now) c.if-announced-lt-STATEMENT_COUNTS.false)) in
+    λ t. (yes _ long (no_here _ (sym c.advances.ensures ∙ c.if-not-advances.true) refl), (refl, refl, refl, refl))
+
 pub returns-in_err-m : goal.returns-in_err-m
 returns-in_err-m g c =
     let o = g.T.PartialOrder in
     let l = map o.value c.args.list.now in
-    let long = and_from _ (leb 32 (length c.args.upper.now) && leb 256 (length c.args.announced.now)) (sym c.are_sized.ensures.value ∙ c.if-not-are_sized.false) (and_from (leb 32 (length c.args.upper.now)) (leb 256 (length c.args.announced.now)) (le-leb 32 (length c.args.upper.now) c.if-upper-lt-FRONTIER_SIZE.false) (le-leb 256 (length c.args.announced.now) c.if-announced-lt-STATEMENT_COUNTS.false)) in
+    let long = and_from _ _ (sym c.are_sized.ensures.value ∙ c.if-not-are_sized.false) (and_from _ _ (le-leb 32 (length c.args.upper.now) c.if-upper-lt-FRONTIER_SIZE.false) (le-leb 256 (length c.args.announced.now) c.if-announced-lt-STATEMENT_COUNTS.false)) in
     let on = sym c.advances.ensures ∙ c.if-not-advances.false in
     let same = announced_reduced g.met.T.PartialOrder.order l (in_use (counted o.value) c.args.self.now.counts c.args.counts.now) in
     let p = err_from_is_err_and c.from_residual.result c.from_residual.ensures.1 in
@@ -36,13 +41,33 @@ pub returns-in_err-n : goal.returns-in_err-n
 returns-in_err-n g c =
     let o = g.T.PartialOrder in
     let l = map o.value c.args.list.now in
-    let long = and_from _ (leb 32 (length c.args.upper.now) && leb 256 (length c.args.announced.now)) (sym c.are_sized.ensures.value ∙ c.if-not-are_sized.false) (and_from (leb 32 (length c.args.upper.now)) (leb 256 (length c.args.announced.now)) (le-leb 32 (length c.args.upper.now) c.if-upper-lt-FRONTIER_SIZE.false) (le-leb 256 (length c.args.announced.now) c.if-announced-lt-STATEMENT_COUNTS.false)) in
+    let long = and_from _ _ (sym c.are_sized.ensures.value ∙ c.if-not-are_sized.false) (and_from _ _ (le-leb 32 (length c.args.upper.now) c.if-upper-lt-FRONTIER_SIZE.false) (le-leb 256 (length c.args.announced.now) c.if-announced-lt-STATEMENT_COUNTS.false)) in
     let on = sym c.advances.ensures ∙ c.if-not-advances.false in
     let same = announced_reduced g.met.T.PartialOrder.order l (in_use (counted o.value) c.args.self.now.counts c.args.counts.now) in
     let small = yes_by_call _ 5 (ap (λ es. cond (is_small es) None (Some 5)) (sym same) ∙ c.in_ok-m.ensures.0) in
     let many = refused_full frontier_size 12 (length c.args.upper.now) 0 _ (omega arith) c.if-upper-lt-FRONTIER_SIZE.false (number_of c.in_err-n.field-0.0) c.in_err-n.ensures.answer.0 in
     let p = err_from_is_err_and c.from_residual-in_err-n.result c.from_residual-in_err-n.ensures.1 in
     rw (p.1, p.2) (λ t. (yes _ long (yes _ on (yes _ small (no_here _ many.0 (ap Some (sym many.1))))), (refl, refl, refl, refl)))
+
+pub slice_bounds-statement-end-3 : goal.slice_bounds-statement-end-3
+slice_bounds-statement-end-3 g c =
+    let o = g.T.PartialOrder in
+    let told = c.in_ok-n.ensures.answer in
+    let few_times : c.in_ok-n.n ≤ 32 = made_few o.below o.value (map o.value c.args.list.now) c.in_ok-n.n _ told.1 (length c.args.upper.now) told.0 in
+    omega arith
+
+pub slice_bounds-statement-end-5 : goal.slice_bounds-statement-end-5
+slice_bounds-statement-end-5 g c =
+    let o = g.T.PartialOrder in
+    let few_counts : c.in_ok-m.m ≤ 256 = omega (arith, c.in_ok-m.ensures.1.1, announced_few o.below (map o.value c.args.list.now) (in_use (counted o.value) c.args.self.now.counts c.args.counts.now), length-map (take c.args.self.now.counts c.args.counts.now) (counted o.value), length-take c.args.self.now.counts c.args.counts.now, c.args.self.now.few_counts) in
+    omega arith
+
+pub slice_bounds-keep_beyond-end : goal.slice_bounds-keep_beyond-end
+slice_bounds-keep_beyond-end g c =
+    let o = g.T.PartialOrder in
+    let told = c.in_ok-n.ensures.answer in
+    let few_times : c.in_ok-n.n ≤ 32 = made_few o.below o.value (map o.value c.args.list.now) c.in_ok-n.n _ told.1 (length c.args.upper.now) told.0 in
+    omega arith
 
 pub push-requires : goal.push-requires
 push-requires g c = let long = c.if-not-are_sized.ensures.long in (omega arith, omega arith)
@@ -51,7 +76,7 @@ pub returns-in_err-push : goal.returns-in_err-push
 returns-in_err-push g c =
     let o = g.T.PartialOrder in
     let l = map o.value c.args.list.now in
-    let long = and_from _ (leb 32 (length c.args.upper.now) && leb 256 (length c.args.announced.now)) (sym c.are_sized.ensures.value ∙ c.if-not-are_sized.false) (and_from (leb 32 (length c.args.upper.now)) (leb 256 (length c.args.announced.now)) (le-leb 32 (length c.args.upper.now) c.if-upper-lt-FRONTIER_SIZE.false) (le-leb 256 (length c.args.announced.now) c.if-announced-lt-STATEMENT_COUNTS.false)) in
+    let long = and_from _ _ (sym c.are_sized.ensures.value ∙ c.if-not-are_sized.false) (and_from _ _ (le-leb 32 (length c.args.upper.now) c.if-upper-lt-FRONTIER_SIZE.false) (le-leb 256 (length c.args.announced.now) c.if-announced-lt-STATEMENT_COUNTS.false)) in
     let on = sym c.advances.ensures ∙ c.if-not-advances.false in
     let same = announced_reduced g.met.T.PartialOrder.order l (in_use (counted o.value) c.args.self.now.counts c.args.counts.now) in
     let small = yes_by_call _ 5 (ap (λ es. cond (is_small es) None (Some 5)) (sym same) ∙ c.in_ok-m.ensures.0) in
@@ -82,7 +107,7 @@ pub returns : goal.returns
 returns g c =
     let o = g.T.PartialOrder in
     let l = map o.value c.args.list.now in
-    let long = and_from _ (leb 32 (length c.args.upper.now) && leb 256 (length c.args.announced.now)) (sym c.are_sized.ensures.value ∙ c.if-not-are_sized.false) (and_from (leb 32 (length c.args.upper.now)) (leb 256 (length c.args.announced.now)) (le-leb 32 (length c.args.upper.now) c.if-upper-lt-FRONTIER_SIZE.false) (le-leb 256 (length c.args.announced.now) c.if-announced-lt-STATEMENT_COUNTS.false)) in
+    let long = and_from _ _ (sym c.are_sized.ensures.value ∙ c.if-not-are_sized.false) (and_from _ _ (le-leb 32 (length c.args.upper.now) c.if-upper-lt-FRONTIER_SIZE.false) (le-leb 256 (length c.args.announced.now) c.if-announced-lt-STATEMENT_COUNTS.false)) in
     let on = sym c.advances.ensures ∙ c.if-not-advances.false in
     let same = announced_reduced g.met.T.PartialOrder.order l (in_use (counted o.value) c.args.self.now.counts c.args.counts.now) in
     let small = yes_by_call _ 5 (ap (λ es. cond (is_small es) None (Some 5)) (sym same) ∙ c.in_ok-m.ensures.0) in

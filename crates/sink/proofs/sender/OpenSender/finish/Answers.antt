@@ -1,4 +1,4 @@
-use Rattle.std.proofs.Common.{[], length, ap, ◌∙◌}
+use Rattle.std.proofs.Common.{length, ap, ◌∙◌}
 use Rattle.capture.specs.Kinds.{kinds}
 use Rattle.sink.specs.Senders.{sender_of, finished_of, finish_tables}
 use Rattle.sink.proofs.Closing.{finished}

@@ -1,26 +1,40 @@
-use Rattle.std.proofs.Common.{◌≡◌, ◌<◌, ◌≤◌, true, ◌&&◌, leb, [], map, length, ap, sym, ◌∙◌, refl, ⊎_elim, arith}
-use Rattle.std.proofs.lemmas.Bool.{and_from, and_left, and_right, le-leb, lt-leb}
+use Rattle.std.proofs.Common.{map, length, ap, sym, ◌∙◌, refl, arith}
+use Rattle.std.proofs.lemmas.Bool.{le-leb, lt-leb, leb-true}
 use Rattle.std.proofs.lemmas.Result.{err_from_is_err_and}
 use Rattle.frontier.specs.Tables.{counted}
 use Rattle.capture.specs.Kinds.{kinds}
 use Rattle.capture.specs.Views.{change_of}
+use Rattle.std.proofs.lemmas.List.{length-map}
 use Rattle.sink.specs.Senders.{sender_of, record_tables}
 use Rattle.sink.proofs.Asking.{yes, no_here, by_push}
 use Rattle.sink.proofs.Pumping.{same_sender}
+use Rattle.sink.proofs.Sizes.{all_sized, not_sized}
 use Rattle.sink.proofs.Recording.{all_small, recorded}
-use Rattle.sink.proofs.sender.OpenSender.record.Given as given
 use Rattle.sink.proofs.sender.OpenSender.record.Goals as goal
 
 pub returns-then-not-are_sized : goal.returns-then-not-are_sized
-returns-then-not-are_sized g c =
-    let short = ⊎_elim (λ h. and_left _ (leb 1024 (length c.args.scratch.now)) (sym c.are_sized.ensures.value ∙ h)) (λ h. and_right _ _ (lt-leb 1024 (length c.args.scratch.now) h.1)) c.then-not-are_sized.either in
-    λ t. (no_here _ short refl, (refl, refl, refl))
+returns-then-not-are_sized g c = λ t. (no_here _ (not_sized c.are_sized.result 1024 (length c.args.scratch.now) c.are_sized.ensures.value c.then-not-are_sized.either) refl, (refl, refl, refl))
+
+pub returns-then-not-is_short : goal.returns-then-not-is_short
+returns-then-not-is_short g c =
+    let long = all_sized c.are_sized.result 1024 (length c.args.scratch.now) c.are_sized.ensures.value c.if-not-are_sized.false c.if-scratch-lt-SCRATCH_COUNTS.false in
+    λ t. (yes _ long (no_here _ (sym c.is_short.ensures ∙ c.if-not-is_short.true) refl), (refl, refl, refl))
+
+pub returns-then-not-all_beyond : goal.returns-then-not-all_beyond
+returns-then-not-all_beyond g c =
+    let long = all_sized c.are_sized.result 1024 (length c.args.scratch.now) c.are_sized.ensures.value c.if-not-are_sized.false c.if-scratch-lt-SCRATCH_COUNTS.false in
+    λ t. (yes _ long (yes _ (sym c.is_short.ensures ∙ c.if-not-is_short.false) (no_here _ (sym c.all_beyond.ensures ∙ c.if-not-all_beyond.true) refl)), (refl, refl, refl))
+
+pub count_changes-n-requires-clause-changes : goal.count_changes-n-requires-clause-changes
+count_changes-n-requires-clause-changes g c =
+    let reads = change_of g.D.Same.value g.T.PartialOrder.value g.R.Same.value in
+    omega (arith, leb-true (length (map reads c.args.changes.now)) 64 (sym c.is_short.ensures ∙ c.if-not-is_short.false), length-map c.args.changes.now reads)
 
 pub returns-then-not-all_small : goal.returns-then-not-all_small
 returns-then-not-all_small g c =
     let o = g.T.PartialOrder in
     let cs = map (change_of g.D.Same.value o.value g.R.Same.value) c.args.changes.now in
-    let long = and_from _ (leb 1024 (length c.args.scratch.now)) (sym c.are_sized.ensures.value ∙ c.if-not-are_sized.false) (le-leb 1024 (length c.args.scratch.now) c.if-scratch-lt-SCRATCH_COUNTS.false) in
+    let long = all_sized c.are_sized.result 1024 (length c.args.scratch.now) c.are_sized.ensures.value c.if-not-are_sized.false c.if-scratch-lt-SCRATCH_COUNTS.false in
     let brief = sym c.is_short.ensures ∙ c.if-not-is_short.false in
     let beyond = sym c.all_beyond.ensures ∙ c.if-not-all_beyond.false in
     let small = ap (all_small o.below cs) (sym c.count_changes-n.ensures.after.0) ∙ sym c.all_small.ensures ∙ c.if-not-all_small.true in
@@ -30,7 +44,7 @@ pub returns-then-most-gt-SENDER_COUNTS : goal.returns-then-most-gt-SENDER_COUNTS
 returns-then-most-gt-SENDER_COUNTS g c =
     let o = g.T.PartialOrder in
     let cs = map (change_of g.D.Same.value o.value g.R.Same.value) c.args.changes.now in
-    let long = and_from _ (leb 1024 (length c.args.scratch.now)) (sym c.are_sized.ensures.value ∙ c.if-not-are_sized.false) (le-leb 1024 (length c.args.scratch.now) c.if-scratch-lt-SCRATCH_COUNTS.false) in
+    let long = all_sized c.are_sized.result 1024 (length c.args.scratch.now) c.are_sized.ensures.value c.if-not-are_sized.false c.if-scratch-lt-SCRATCH_COUNTS.false in
     let brief = sym c.is_short.ensures ∙ c.if-not-is_short.false in
     let beyond = sym c.all_beyond.ensures ∙ c.if-not-all_beyond.false in
     let small = ap (all_small o.below cs) (sym c.count_changes-n.ensures.after.0) ∙ sym c.all_small.ensures ∙ c.if-not-all_small.false in
@@ -44,7 +58,7 @@ pub returns-in_err-push : goal.returns-in_err-push
 returns-in_err-push g c =
     let o = g.T.PartialOrder in
     let cs = map (change_of g.D.Same.value o.value g.R.Same.value) c.args.changes.now in
-    let long = and_from _ (leb 1024 (length c.args.scratch.now)) (sym c.are_sized.ensures.value ∙ c.if-not-are_sized.false) (le-leb 1024 (length c.args.scratch.now) c.if-scratch-lt-SCRATCH_COUNTS.false) in
+    let long = all_sized c.are_sized.result 1024 (length c.args.scratch.now) c.are_sized.ensures.value c.if-not-are_sized.false c.if-scratch-lt-SCRATCH_COUNTS.false in
     let brief = sym c.is_short.ensures ∙ c.if-not-is_short.false in
     let beyond = sym c.all_beyond.ensures ∙ c.if-not-all_beyond.false in
     let small = ap (all_small o.below cs) (sym c.count_changes-n.ensures.after.0) ∙ sym c.all_small.ensures ∙ c.if-not-all_small.false in
@@ -53,17 +67,11 @@ returns-in_err-push g c =
     let p = err_from_is_err_and c.from_residual.result c.from_residual.ensures.1 in
     rw (p.1, p.2) (λ t. (yes _ long (yes _ brief (yes _ beyond (yes _ small (yes _ fit (by_push _ brief told.0))))), (same_sender _ _ _ _ _ _ _ _ _ _ told.1.0 refl, refl, told.1.1)))
 
-pub copy_entries-requires : goal.copy_entries-requires
-copy_entries-requires g c = let long = c.if-not-are_sized.ensures.long in (omega arith, omega arith)
-
-pub invariant_of-self-2 : goal.invariant_of-self-2
-invariant_of-self-2 g c = record { few_times = c.args.self.now.few_times; few_counts = omega arith }
-
 pub returns : goal.returns
 returns g c =
     let o = g.T.PartialOrder in
     let cs = map (change_of g.D.Same.value o.value g.R.Same.value) c.args.changes.now in
-    let long = and_from _ (leb 1024 (length c.args.scratch.now)) (sym c.are_sized.ensures.value ∙ c.if-not-are_sized.false) (le-leb 1024 (length c.args.scratch.now) c.if-scratch-lt-SCRATCH_COUNTS.false) in
+    let long = all_sized c.are_sized.result 1024 (length c.args.scratch.now) c.are_sized.ensures.value c.if-not-are_sized.false c.if-scratch-lt-SCRATCH_COUNTS.false in
     let brief = sym c.is_short.ensures ∙ c.if-not-is_short.false in
     let beyond = sym c.all_beyond.ensures ∙ c.if-not-all_beyond.false in
     let small = ap (all_small o.below cs) (sym c.count_changes-n.ensures.after.0) ∙ sym c.all_small.ensures ∙ c.if-not-all_small.false in
