@@ -11,7 +11,12 @@ mod stored;
 mod writer;
 
 pub use law::{law_of_runs, messages_of_runs, sample_run, worked_deliveries};
-pub use message::{MESSAGE_CHANGES, Message, Progress, STATEMENT_COUNTS, STATEMENT_TIMES};
+pub use message::{
+    LARGEST_COUNT, MESSAGE_CHANGES, Message, Progress, STATEMENT_COUNTS, STATEMENT_TIMES,
+};
 pub use row::Row;
 pub use stored::{Sort, StoredMessage, StoredProgress, StoredUpdates};
 pub use writer::Writer;
+
+// The entries that a table for a reader's counts has at least, and the counts that it has at most.
+pub const COUNTS_SIZE: usize = 1024;

@@ -9,8 +9,10 @@ use lattice::{PartialOrder, Same};
 pub const MESSAGE_CHANGES: usize = 64;
 // so many lower times and so many upper ones,
 pub const STATEMENT_TIMES: usize = 32;
-// and so many counts.
+// and so many counts,
 pub const STATEMENT_COUNTS: usize = 256;
+// each of them at most this.
+pub const LARGEST_COUNT: u32 = 1_000_000;
 
 // A message of the protocol.
 #[derive_where(Clone, Copy)]

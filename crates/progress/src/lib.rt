@@ -24,7 +24,7 @@ pub use tables::ProgressTables;
 pub use weighing::{Weighed, weigh_fresh};
 
 // The entries that a table for a reader's counts has at least, and the counts that it has at most.
-pub const COUNTS_SIZE: usize = 1024;
+pub const COUNTS_SIZE: usize = capture::COUNTS_SIZE;
 // The entries that a table for waiting statements has at least, and the statements that wait at most.
 pub const WAITING_SIZE: usize = 32;
 // The entries that a table for changes has at least, and the changes that are held at most.

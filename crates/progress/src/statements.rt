@@ -34,7 +34,7 @@ pub struct Lengths {
 }
 
 // A count that is announced is at most this.
-pub const LARGEST_COUNT: u32 = 1_000_000;
+pub const LARGEST_COUNT: u32 = capture::LARGEST_COUNT;
 
 // Whether no count is over the largest, as question 5 asks.
 pub fn is_small<T: PartialOrder>(counts: &[(T, u32)]) -> bool

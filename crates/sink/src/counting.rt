@@ -8,17 +8,18 @@ ghost use Rattle.capture.specs.Sizes.{largest_count, sender_counts, message_chan
 ghost use Rattle.capture.specs.Sender.{told, count_at, raised};
 ghost use Rattle.capture.specs.Views.{change_of};
 
+use capture::{COUNTS_SIZE, STATEMENT_COUNTS};
 use frontier::entries::copy_entries;
 use frontier::{is_beyond, update};
 use lattice::{PartialOrder, Same, same_time};
 
-// A sender counts the changes of at most so many times.
-pub const SENDER_COUNTS: usize = 256;
+// A sender counts the changes of at most so many times, so that a statement can tell them all.
+pub const SENDER_COUNTS: usize = STATEMENT_COUNTS;
 // A scratch table for counts has so many entries, as a reader's table has: a record asks for the
 // resulting counts before it asks whether they fit the sender's table.
-pub const SCRATCH_COUNTS: usize = 1024;
-// A count that is announced is at most this.
-pub const LARGEST_COUNT: i64 = 1_000_000;
+pub const SCRATCH_COUNTS: usize = COUNTS_SIZE;
+// A count that is announced is at most this; a sender's own counts are signed.
+pub const LARGEST_COUNT: i64 = capture::LARGEST_COUNT as i64;
 
 // Whether a count, a negative one taken as 0, is not too large.
 pub(crate) fn is_small(count: i64) -> bool
