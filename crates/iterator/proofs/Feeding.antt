@@ -16,7 +16,7 @@ use Rattle.capture.specs.Statements.{lower_edge}
 use Rattle.capture.specs.Stored.{stored_statement}
 use Rattle.capture.specs.declared.stored.StoredProgress.{StoredProgress}
 use Rattle.iterator.specs.Intervals.{LetsOut}
-use Rattle.iterator.specs.Readers.{Tables, tables, Few, after, Tells, held_in, Fed}
+use Rattle.iterator.specs.Readers.{Tables, tables, Few, after, held_in, Fed}
 use Rattle.iterator.specs.declared.held.Held.{Held}
 use Rattle.iterator.proofs.Published.{moved_to, stood, moved}
 
@@ -48,21 +48,13 @@ module _ {X Y D A R : Type 0} (value : Y → A) (reads : X → Change D A R) (k 
   abbrev mid : Meant D A R
   mid = held_in value reads hn tn
 
-  let_out : (r : Option (ℕ × ℕ)) → LetsOut k.time.below value reads r E hn.reported hn.held tn.reported R' tn.updates U' P P' Q Q' → (held_in value reads (after r hn) left ≡ (published k mid).1) × Tells value reads r (published k mid).0 P P' Q Q'
+  let_out : (r : Option (ℕ × ℕ)) → LetsOut k.time.below value reads r E hn.reported hn.held tn.reported R' tn.updates U' P P' Q Q' → held_in value reads (after r hn) left ≡ (published k mid).1
   let_out None l =
       let e = stood k mid E edge l.0 in
-      let Told : Option (List (Change D A R) × List A) → Type 0 = λ o. Tells value reads None o P P' Q Q' in
-      (ap (λ rs. held_in value reads hn (tables tn.frontier rs tn.counts U' tn.waiting)) l.1 ∙ ap (λ us. held_in value reads hn (tables tn.frontier tn.reported tn.counts us tn.waiting)) l.2 ∙ sym (ap (λ z. z.1) e), subst Told (sym (ap (λ z. z.0) e)) (l.3, l.4))
+      ap (λ rs. held_in value reads hn (tables tn.frontier rs tn.counts U' tn.waiting)) l.1 ∙ ap (λ us. held_in value reads hn (tables tn.frontier tn.reported tn.counts us tn.waiting)) l.2 ∙ sym (ap (λ z. z.1) e)
   let_out (Some q) l =
       let e = moved k mid E edge l.0 in
-      let Told : Option (List (Change D A R) × List A) → Type 0 = λ o. Tells value reads (Some q) o P P' Q Q' in
-      (ap (λ rs. record { progress = mid.progress; reported = rs; updates = in_use reads (hn.held - q.0) U'; drops = hn.drops }) l.1.0 ∙ ap (λ us. record { progress = mid.progress; reported = E; updates = us; drops = hn.drops }) l.2.0 ∙ sym (ap (λ z. z.1) e), subst Told (sym (ap (λ z. z.0) e)) (l.3, l.4))
-
-  -- what the reader and the answer tables come to is what the meaning says
-  pub told_accepted : (v : Meant D A R) → mid ≡ v → (r : Option (ℕ × ℕ)) (h' : Held) → h' ≡ after r hn → LetsOut k.time.below value reads r E hn.reported hn.held tn.reported R' tn.updates U' P P' Q Q' → (held_in value reads h' left ≡ (published k v).1) × Tells value reads r (published k v).0 P P' Q Q'
-  told_accepted v taken r h' e l =
-      let done = let_out r l in
-      (ap (λ x. held_in value reads x left) e ∙ done.0 ∙ ap (λ x. (published k x).1) taken, subst (λ o. Tells value reads r o P P' Q Q') (ap (λ x. (published k x).0) taken) done.1)
+      ap (λ rs. record { progress = mid.progress; reported = rs; updates = in_use reads (hn.held - q.0) U'; drops = hn.drops }) l.1.0 ∙ ap (λ us. record { progress = mid.progress; reported = E; updates = us; drops = hn.drops }) l.2.0 ∙ sym (ap (λ z. z.1) e)
 
 module _ {X Y D A R : Type 0} (value : Y → A) (reads : X → Change D A R) (k : Kinds D A R) (sizes : Bool) (m : Message D A R) (h : Held) (t : Tables X Y) where
   abbrev before : Meant D A R
@@ -82,7 +74,7 @@ module _ {X Y D A R : Type 0} (value : Y → A) (reads : X → Change D A R) (k 
     fed_as v e = answer_yes (feed_asks k sizes m before) before (published k (taken_in k m before)) none ∙ ap (λ z. (accepted z.0, z.1)) (sym (ap (published k) taken) ∙ e)
 
     left_is : (r : Option (ℕ × ℕ)) → LetsOut k.time.below value reads r E hn.reported hn.held tn.reported R' tn.updates U' P P' Q Q' → held_in value reads (after r hn) leaves ≡ (feed k sizes m before).1
-    left_is r l = (let_out value reads k hn tn E edge R' U' P P' Q Q' r l).0 ∙ sym (ap (λ z. z.1) (fed_as (published k (held_in value reads hn tn)) refl))
+    left_is r l = let_out value reads k hn tn E edge R' U' P P' Q Q' r l ∙ sym (ap (λ z. z.1) (fed_as (published k (held_in value reads hn tn)) refl))
 
     fed_out : (r : Option (ℕ × ℕ)) → LetsOut k.time.below value reads r E hn.reported hn.held tn.reported R' tn.updates U' P P' Q Q' → Fed value reads k sizes m (Ok r) h t (after r hn) leaves P P' Q Q'
     fed_out None l =

@@ -1,22 +1,28 @@
--- What a statement would make of a reader's progress, in scratch tables.
-use Rattle.std.proofs.Common.{◌≡◌, ℕ, ◌-◌, ◌≤◌, Bool, true, ◌&&◌, List, [], ◌∷◌, ◌++◌, map, length, take, ℤ, Some, None, sym, ap, ◌∙◌, arith}
+-- What a statement or changes would make of a reader, in scratch tables.
+use Rattle.std.proofs.Common.{◌≡◌, ℕ, ◌-◌, ◌≤◌, Bool, true, ◌&&◌, List, [], ◌∷◌, ◌++◌, map, length, take, ℤ, Some, None, Ok, Err, Result, sym, ap, ◌∙◌, subst, arith}
 use Rattle.std.proofs.lemmas.List.{length-map, length-take}
-use Rattle.std.proofs.lemmas.Bool.{and_from}
-use Rattle.questions.specs.Questions.{first_no}
+use Rattle.std.proofs.lemmas.Bool.{and_from, le-leb}
+use Rattle.questions.specs.declared.Refusal.{Refusal}
+use Rattle.questions.specs.Questions.{first_no, number_of}
 use Rattle.questions.proofs.Asking.{ask_next, ask_here}
 use Rattle.frontier.specs.Counts.{positives}
 use Rattle.frontier.specs.Frontiers.{inserted_all, fits}
 use Rattle.frontier.specs.Tables.{in_use, Holds, sized, counted, frontier_size, frontier_asks}
 use Rattle.frontier.proofs.Tables.{sub_zero, sized_yes, accepted, refused_full}
 use Rattle.frontier.proofs.Filling.{fit_length, inserting}
-use Rattle.capture.specs.Kinds.{Time}
-use Rattle.capture.specs.Messages.{Statement}
-use Rattle.capture.specs.Sizes.{reader_counts, reader_statements}
+use Rattle.capture.specs.Held.{Held as Meant, news, lowered_by}
+use Rattle.capture.specs.Kinds.{Kinds, Time}
+use Rattle.capture.specs.Messages.{Change, Statement, short_changes}
+use Rattle.capture.specs.Sizes.{message_changes, reader_counts, reader_statements}
 use Rattle.capture.specs.Statements.{Progress, advanced, statement_asks, lower_edge, edge_fits}
 use Rattle.capture.specs.declared.stored.StoredProgress.{StoredProgress}
 use Rattle.progress.specs.Tables.{progress_of, progress_sized}
+use Rattle.progress.specs.Weighing.{fresh_asks, FreshWeighed}
 use Rattle.progress.specs.declared.statements.Lengths.{Lengths}
-use Rattle.iterator.specs.Taking.{Reads}
+use Rattle.progress.specs.declared.weighing.Weighed.{Weighed}
+use Rattle.iterator.specs.Feeding.{Reads, WeighsChanges}
+use Rattle.iterator.specs.Readers.{Tables, held_in, changes_asks}
+use Rattle.iterator.specs.declared.held.Held.{Held}
 use Rattle.progress.proofs.Acting.{asked_on_from, asked_until}
 
 -- the scratch tables of a progress are at least their sizes
@@ -67,7 +73,7 @@ module _ {Y A : Type 0} (t : Time A) (value : Y → A) (n : Lengths) (F : List Y
 
   -- what the making of the lower edge is asked, and tells
   module _ (l : ℕ) where
-    abbrev edge_asks : List (Bool × ℕ)
+    abbrev pub edge_asks : List (Bool × ℕ)
     edge_asks = frontier_asks l (length (take (n.frontier - 0) F)) (fits t.below frontier_size times (positives sums))
 
     pub edge_no : n.frontier ≤ frontier_size → frontier_size ≤ l → (m : ℕ) → first_no edge_asks ≡ Some m → first_no ((edge_fits t q, 12) ∷ []) ≡ Some m
@@ -82,3 +88,39 @@ module _ {Y A : Type 0} (t : Time A) (value : Y → A) (n : Lengths) (F : List Y
         let few : length times ≤ frontier_size = omega (arith, length-map (take (n.frontier - 0) F) value, told.0) in
         let short = fit_length (inserting t.below) times (positives sums) few told.2 in
         (ask_next (edge_fits t q) 12 [] (sym near_is ∙ told.2), (made.0 ∙ edge_is, sym (ap length edge_is) ∙ made.1, omega (arith, made.1, short)))
+
+-- the weighing of changes, by the parts of a reader's tables that are in use
+module _ {X Y D A R : Type 0} (k : Kinds D A R) (value : Y → A) (reads : X → Change D A R) (s : Held) (t : Tables X Y) (cs : List X) where
+  abbrev before : Meant D A R
+  before = held_in value reads s t
+
+  abbrev then : Progress A
+  then = lowered_by k (news k (map reads cs) before) before.progress
+
+  abbrev asks : List (Bool × ℕ)
+  asks = fresh_asks k before.reported before.updates before.progress.counts (map reads cs)
+
+  pub uncut : (r : Result Weighed Refusal) (new : List X) (sums : List (Y × ℤ)) → FreshWeighed k value reads r cs (take (s.reported - 0) t.reported) (take (s.held - 0) t.updates) (take (s.progress.counts - 0) t.counts) new sums → FreshWeighed k value reads r cs (take s.reported t.reported) (take s.held t.updates) (take s.progress.counts t.counts) new sums
+  uncut r new sums f =
+      subst (λ i. FreshWeighed k value reads r cs (take s.reported t.reported) (take s.held t.updates) (take i t.counts) new sums) (sub_zero s.progress.counts)
+      (subst (λ i. FreshWeighed k value reads r cs (take s.reported t.reported) (take i t.updates) (take (s.progress.counts - 0) t.counts) new sums) (sub_zero s.held)
+      (subst (λ i. FreshWeighed k value reads r cs (take i t.reported) (take (s.held - 0) t.updates) (take (s.progress.counts - 0) t.counts) new sums) (sub_zero s.reported) f))
+
+  module _ (short : length cs ≤ message_changes) (w : Weighed) (new : List X) (sums : List (Y × ℤ)) (told : FreshWeighed k value reads (Ok w) cs (take s.reported t.reported) (take s.held t.updates) (take s.progress.counts t.counts) new sums) where
+    abbrev left : Lengths
+    left = record { frontier = s.progress.frontier; counts = w.counts; waiting = s.progress.waiting }
+
+    on : first_no (changes_asks k (map reads cs) before) ≡ first_no ((edge_fits k.time then, 12) ∷ [])
+    on = ask_next (short_changes (map reads cs)) 2 (asks ++ (edge_fits k.time then, 12) ∷ []) (le-leb (length (map reads cs)) message_changes (omega (arith, length-map cs reads))) ∙ asked_on_from ((edge_fits k.time then, 12) ∷ []) asks told.0
+
+    pub made : progress_of value left t.frontier sums t.waiting ≡ then
+    made = ap (λ c. record { frontier = before.progress.frontier; counts = c; waiting = before.progress.waiting }) told.1.1.0
+
+    module _ (l : ℕ) (few : s.progress.frontier ≤ frontier_size) (long : frontier_size ≤ l) where
+      pub changes_no : (f : Refusal) (edge : List Y) → first_no (edge_asks k.time value left t.frontier sums t.waiting then made l) ≡ Some (number_of f) → WeighsChanges k value reads (Err f) (map reads cs) before new sums edge
+      changes_no f edge e = (on ∙ edge_no k.time value left t.frontier sums t.waiting then made l few long (number_of f) e, tt)
+
+      pub changes_yes : (m : ℕ) (edge : List Y) → first_no (edge_asks k.time value left t.frontier sums t.waiting then made l) ≡ None → Holds value m edge (inserted_all k.time.below (map value (take (s.progress.frontier - 0) t.frontier)) (positives (map (counted value) (take (w.counts - 0) sums)))) → WeighsChanges k value reads (Ok (w, m)) (map reads cs) before new sums edge
+      changes_yes m edge e h =
+          let end = edge_yes k.time value left t.frontier sums t.waiting then made l m edge e h in
+          (on ∙ end.0, ((told.1.0.0, told.1.0.1, omega (arith, told.1.2, short)), (told.1.1.0, told.1.1.1, told.1.3), end.1))

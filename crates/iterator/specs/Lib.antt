@@ -1,3 +1,3 @@
-pub mod Taking
 pub mod Intervals
 pub mod Readers
+pub mod Feeding

@@ -1,5 +1,6 @@
 -- A held reader, by what its numbers and tables read as, and what a call on it answers.
 use Rattle.std.specs.Prelude.{◌≡◌, ℕ, ◌-◌, ◌≤◌, Bool, ◌&&◌, List, [], ◌∷◌, ◌++◌, length, drop, ℤ, Some, None, Ok, Err, Option, Result, nat_le}
+use Rattle.std.specs.Borrow.{MutBor}
 use Rattle.questions.specs.declared.Refusal.{Refusal}
 use Rattle.questions.specs.Questions.{number_of}
 use Rattle.frontier.specs.Counts.{room}
@@ -11,8 +12,9 @@ use Rattle.capture.specs.Messages.{Change, Message, short_changes}
 use Rattle.capture.specs.Sizes.{reader_changes, reader_counts, reader_statements}
 use Rattle.capture.specs.Statements.{lowered, edge_fits}
 use Rattle.capture.specs.declared.stored.StoredProgress.{StoredProgress}
-use Rattle.progress.specs.Tables.{progress_of, ProgressSized}
+use Rattle.progress.specs.Tables.{progress_of}
 use Rattle.iterator.specs.declared.held.Held.{Held}
+use Rattle.iterator.specs.declared.held.HeldTables.{HeldTables}
 
 -- a reader's own tables: progress frontier, reported frontier, counts, changes held, waiting statements
 pub record Tables (X Y : Type 0) : Type 0 where
@@ -24,6 +26,14 @@ pub record Tables (X Y : Type 0) : Type 0 where
 
 abbrev pub tables : {X Y : Type 0} → List Y → List Y → List (Y × ℤ) → List X → List (StoredProgress Y) → Tables X Y
 tables frontier reported counts updates waiting = record { frontier = frontier; reported = reported; counts = counts; updates = updates; waiting = waiting }
+
+-- what the tables that are lent to a call hold, with the waiting statements
+abbrev pub lent : {D T R : Type 0} → HeldTables D T R → List (StoredProgress T) → Tables (D × T × R) T
+lent t waiting = tables t.frontier.now t.reported.now t.counts.now t.held.now waiting
+
+-- what the call leaves in them
+abbrev pub left : {X Y : Type 0} → MutBor (List Y) × (MutBor (List Y) × (MutBor (List (Y × ℤ)) × (MutBor (List X) × Unit {0}))) → List (StoredProgress Y) → Tables X Y
+left t waiting = tables t.0.now t.1.0.now t.1.1.0.now t.1.1.1.0.now waiting
 
 -- no more of a reader's tables is in use than their sizes, as a test and as numbers
 abbrev pub few : Held → Bool
@@ -73,20 +83,9 @@ abbrev pub Untouched : {X Y : Type 0} → ℕ × ℕ → List X → List X → L
 Untouched n published published' told told' = (n.0 ≤ reader_changes) × (n.1 ≤ frontier_size) × (drop n.0 published' ≡ drop n.0 published) × (drop n.1 told' ≡ drop n.1 told)
 
 module _ {X Y D A R : Type 0} (value : Y → A) (reads : X → Change D A R) where
-  -- the reader that stands in the first entries of the tables
-  abbrev pub held_of : Held → List Y → List Y → List (Y × ℤ) → List X → List (StoredProgress Y) → Meant D A R
-  held_of h frontier reported counts updates waiting = record { progress = progress_of value h.progress frontier counts waiting; reported = in_use value h.reported reported; updates = in_use reads h.held updates; drops = h.drops }
-
-  -- the two numbers are the lengths of the interval's lists; the answer tables hold those lists first, and are untouched beyond, or altogether where there is none
-  abbrev pub Tells : Option (ℕ × ℕ) → Option (List (Change D A R) × List A) → List X → List X → List Y → List Y → Type 0
-  Tells None None published published' told told' = (published' ≡ published) × (told' ≡ told)
-  Tells None (Some i) published published' told told' = ⊥
-  Tells (Some q) None published published' told told' = ⊥
-  Tells (Some q) (Some i) published published' told told' = (Holds reads q.0 published' i.0 × (drop q.0 published' ≡ drop q.0 published)) × (Holds value q.1 told' i.1 × (drop q.1 told' ≡ drop q.1 told))
-
   -- the reader that stands in the first entries of its tables
   abbrev pub held_in : Held → Tables X Y → Meant D A R
-  held_in h t = held_of h t.frontier t.reported t.counts t.updates t.waiting
+  held_in h t = record { progress = progress_of value h.progress t.frontier t.counts t.waiting; reported = in_use value h.reported t.reported; updates = in_use reads h.held t.updates; drops = h.drops }
 
   -- what an answer says, by the answer tables' first entries: a refusal's number; or an interval, with its changes and its frontier, or none
   abbrev pub answer_of : Result (Option (ℕ × ℕ)) Refusal → List X → List Y → Answer (Option (List (Change D A R) × List A))
@@ -99,13 +98,6 @@ module _ {X Y D A R : Type 0} (value : Y → A) (reads : X → Change D A R) whe
   Fed k sizes m r h t h' t' published published' told told' =
       (answer_of r published' told' ≡ (feed k sizes m (held_in h t)).0) × (held_in h' t' ≡ (feed k sizes m (held_in h t)).1)
       × Leaves r h t h' t' × Untouched (entries_told r) published published' told told'
-
--- each table is at least its size, and no more of it is in use; answer and scratch tables too
-abbrev pub HeldSized : {X Y : Type 0} → Held → List Y → List Y → List (Y × ℤ) → List X → List (StoredProgress Y) → List X → List Y → List X → List (Y × ℤ) → List Y → Type 0
-HeldSized h frontier reported counts updates waiting published told new sums edge =
-    ProgressSized h.progress frontier counts waiting
-    × (h.reported ≤ frontier_size) × (frontier_size ≤ length reported) × (h.held ≤ reader_changes) × (reader_changes ≤ length updates)
-    × (reader_changes ≤ length published) × (frontier_size ≤ length told) × (reader_changes ≤ length new) × (reader_counts ≤ length sums) × (frontier_size ≤ length edge)
 
 -- what feed asks of changes once the tables are at least their sizes
 abbrev pub changes_asks : {D A R : Type 0} → Kinds D A R → List (Change D A R) → Meant D A R → List (Bool × ℕ)

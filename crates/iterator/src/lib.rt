@@ -5,6 +5,5 @@
 
 mod edges;
 mod held;
-mod taking;
 
-pub use held::{Held, HeldScratch};
+pub use held::{Held, HeldAnswer, HeldScratch, HeldTables};

@@ -1,68 +1,83 @@
 // Taking in changes.
-ghost use Rattle.std.specs.Prelude.{◌≡◌, true, map};
-ghost use Rattle.questions.specs.Answers.{Answered};
-ghost use Rattle.capture.specs.Held.{taken_in, published as lets_out};
+ghost use Rattle.std.specs.Prelude.{◌≤◌, map, length};
+ghost use Rattle.frontier.specs.Tables.{frontier_size};
 ghost use Rattle.capture.specs.Messages.{changes as changes_of};
 ghost use Rattle.capture.specs.Kinds.{kinds};
+ghost use Rattle.capture.specs.Sizes.{reader_changes, reader_counts};
 ghost use Rattle.capture.specs.Views.{change_of};
-ghost use Rattle.iterator.specs.Readers.{tables, held_of, Tells, Fed, HeldSized, changes_asks};
+ghost use Rattle.iterator.specs.Readers.{held_in};
 
-use super::Held;
-use crate::taking::weigh_changes;
-use capture::StoredProgress;
+use super::feeding::Feeding;
+use capture::MESSAGE_CHANGES;
 use frontier::steps;
 use lattice::{PartialOrder, Same, Timestamp};
-use progress::append_entries;
+use progress::{Weighed, append_entries, lower_edge, weigh_fresh};
 use questions::Refusal;
 
-impl Held {
+impl<'a, D: Same + Copy, T: Timestamp + Copy, R: Same + Copy> Feeding<'a, D, T, R> {
+    ghost use Rattle.iterator.specs.Feeding.{own, Ready, WeighsChanges, Takes};
+
+    // Finds out what changes would make of the reader: which are new, the counts that they lower, and
+    // the lower edge then.  Tells how much of each scratch table is in use.
+    fn weigh_changes(
+        &self,
+        changes: &[(D, T, R)],
+        new: &mut [(D, T, R)],
+        sums: &mut [(T, i64)],
+        edge: &mut [T],
+    ) -> Result<(Weighed, usize), Refusal>
+        requires reader { Ready self.now }
+        requires scratch { (reader_changes ≤ length new.old) × (reader_counts ≤ length sums.old) × (frontier_size ≤ length edge.old) }
+        ensures { WeighsChanges (kinds D.Same.alike T.PartialOrder.below T.Lattice.joined T.Timestamp.start R.Same.alike) T.PartialOrder.value (change_of D.Same.value T.PartialOrder.value R.Same.value) result (map (change_of D.Same.value T.PartialOrder.value R.Same.value) changes.now) (held_in T.PartialOrder.value (change_of D.Same.value T.PartialOrder.value R.Same.value) self.now.reader.now (own self.now)) new.new sums.new edge.new }
+    {
+        if changes.len() > MESSAGE_CHANGES {
+            return Err(Refusal::LongMessage);
+        }
+        let (times, seen) = (self.reader.progress.frontier, self.reader.reported);
+        let (len, kept) = (self.reader.progress.counts, self.reader.held);
+        let w = weigh_fresh(
+            changes,
+            &self.reported[0..seen],
+            &self.held[0..kept],
+            &self.counts[0..len],
+            new,
+            sums,
+        )?;
+        let left = &sums[..];
+        let end = lower_edge(&self.frontier[0..times], &left[0..w.counts], edge)?;
+        Ok((w, end))
+    }
+
     // Takes in a message of changes.  Whether every question is answered yes is found out in scratch
     // tables, before anything of the reader is written.
-    pub(crate) fn feed_changes<D: Same + Copy, T: Timestamp + Copy, R: Same + Copy>(
-        &mut self,
+    pub(super) fn take_changes(
+        self,
         changes: &[(D, T, R)],
-        frontier: &[T],
-        reported: &mut [T],
-        counts: &mut [(T, i64)],
-        held: &mut [(D, T, R)],
-        waiting: &[StoredProgress<T>],
-        published: &mut [(D, T, R)],
-        told: &mut [T],
         new: &mut [(D, T, R)],
         sums: &mut [(T, i64)],
         edge: &mut [T],
     ) -> Result<Option<(usize, usize)>, Refusal>
-        requires { HeldSized self.old frontier.now reported.old counts.old held.old waiting.now published.old told.old new.old sums.old edge.old }
-        ensures answered { Answered result
-            (changes_asks (kinds D.Same.alike T.PartialOrder.below T.Lattice.joined T.Timestamp.start R.Same.alike) (map (change_of D.Same.value T.PartialOrder.value R.Same.value) changes.now) (held_of T.PartialOrder.value (change_of D.Same.value T.PartialOrder.value R.Same.value) self.old frontier.now reported.old counts.old held.old waiting.now))
-            (λ o. (held_of T.PartialOrder.value (change_of D.Same.value T.PartialOrder.value R.Same.value) self.new frontier.now reported.new counts.new held.new waiting.now ≡ (lets_out (kinds D.Same.alike T.PartialOrder.below T.Lattice.joined T.Timestamp.start R.Same.alike) (taken_in (kinds D.Same.alike T.PartialOrder.below T.Lattice.joined T.Timestamp.start R.Same.alike) (changes_of (map (change_of D.Same.value T.PartialOrder.value R.Same.value) changes.now)) (held_of T.PartialOrder.value (change_of D.Same.value T.PartialOrder.value R.Same.value) self.old frontier.now reported.old counts.old held.old waiting.now))).1)
-            × Tells T.PartialOrder.value (change_of D.Same.value T.PartialOrder.value R.Same.value) o (lets_out (kinds D.Same.alike T.PartialOrder.below T.Lattice.joined T.Timestamp.start R.Same.alike) (taken_in (kinds D.Same.alike T.PartialOrder.below T.Lattice.joined T.Timestamp.start R.Same.alike) (changes_of (map (change_of D.Same.value T.PartialOrder.value R.Same.value) changes.now)) (held_of T.PartialOrder.value (change_of D.Same.value T.PartialOrder.value R.Same.value) self.old frontier.now reported.old counts.old held.old waiting.now))).0 published.old published.new told.old told.new)
-            ((self.new ≡ self.old) × (reported.new ≡ reported.old) × (counts.new ≡ counts.old) × (held.new ≡ held.old) × (published.new ≡ published.old) × (told.new ≡ told.old)) }
-        ensures fed { Fed T.PartialOrder.value (change_of D.Same.value T.PartialOrder.value R.Same.value) (kinds D.Same.alike T.PartialOrder.below T.Lattice.joined T.Timestamp.start R.Same.alike) true (changes_of (map (change_of D.Same.value T.PartialOrder.value R.Same.value) changes.now)) result
-            self.old (tables frontier.now reported.old counts.old held.old waiting.now)
-            self.new (tables frontier.now reported.new counts.new held.new waiting.now)
-            published.old published.new told.old told.new }
+        requires reader { Ready self }
+        requires scratch { (reader_changes ≤ length new.old) × (reader_counts ≤ length sums.old) × (frontier_size ≤ length edge.old) }
+        ensures { Takes (kinds D.Same.alike T.PartialOrder.below T.Lattice.joined T.Timestamp.start R.Same.alike) T.PartialOrder.value (change_of D.Same.value T.PartialOrder.value R.Same.value) (changes_of (map (change_of D.Same.value T.PartialOrder.value R.Same.value) changes.now)) result self.entry self.exit }
     {
-        let (times, seen) = (self.progress.frontier, self.reported);
-        let (len, kept) = (self.progress.counts, self.held);
-        let stated = &counts[..];
-        let all = &held[..];
-        let w = weigh_changes(
-            changes,
-            &frontier[0..times],
-            &reported[0..seen],
-            &stated[0..len],
-            &all[0..kept],
-            new,
-            sums,
-            edge,
-        )?;
+        let (w, end) = self.weigh_changes(changes, new, sums, edge)?;
+        let Feeding {
+            reader,
+            reported,
+            counts,
+            held,
+            published,
+            told,
+            ..
+        } = self;
+        let kept = reader.held;
         steps::copy_entries(sums, counts, w.counts);
         append_entries(new, w.new, held, kept);
-        self.progress.counts = w.counts;
-        self.held = kept + w.new;
-        self.drops = self.drops.saturating_add((changes.len() - w.new) as u64);
-        let end = w.edge;
-        Ok(self.let_out(&edge[0..end], reported, held, published, told))
+        reader.progress.counts = w.counts;
+        reader.held = kept + w.new;
+        let dropped = changes.len() - w.new;
+        reader.drops = reader.drops.saturating_add(dropped as u64);
+        Ok(reader.let_out(&edge[0..end], reported, held, published, told))
     }
 }

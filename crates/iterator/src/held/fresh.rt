@@ -7,32 +7,15 @@ ghost use Rattle.capture.specs.Views.{change_of};
 ghost use Rattle.iterator.specs.Readers.{tables, held_in, own_sized, Few};
 
 use super::Held;
+use super::sizes::are_own_sized;
 use capture::StoredProgress;
-use frontier::FRONTIER_SIZE;
 use lattice::{PartialOrder, Same, Timestamp};
-use progress::{CHANGES_SIZE, COUNTS_SIZE, Lengths, WAITING_SIZE};
+use progress::Lengths;
 use questions::Refusal;
-
-// Whether each of a reader's own tables is at least its size, as question 1 asks.
-pub(crate) fn are_own_sized<D: Same, T: PartialOrder, R: Same>(
-    frontier: &[T],
-    reported: &[T],
-    counts: &[(T, i64)],
-    held: &[(D, T, R)],
-    waiting: &[StoredProgress<T>],
-) -> bool
-    ensures { result ≡ own_sized (tables frontier.now reported.now counts.now held.now waiting.now) }
-{
-    let times = FRONTIER_SIZE <= frontier.len();
-    let seen = FRONTIER_SIZE <= reported.len();
-    let sums = COUNTS_SIZE <= counts.len();
-    let kept = CHANGES_SIZE <= held.len();
-    let statements = WAITING_SIZE <= waiting.len();
-    times && (seen && (sums && (kept && statements)))
-}
 
 impl Held {
     // A reader that got nothing yet: both its frontiers are the start alone.
+    // Its five tables come one by one, since a call asks for no more than it needs: three are only looked at.
     pub fn new<D: Same + Copy, T: Timestamp + Copy, R: Same + Copy>(
         frontier: &mut [T],
         reported: &mut [T],

@@ -1,58 +1,76 @@
 // Taking in a statement.
-ghost use Rattle.std.specs.Prelude.{◌≤◌, true, length};
+ghost use Rattle.std.specs.Prelude.{◌≤◌, length};
 ghost use Rattle.frontier.specs.Tables.{frontier_size};
 ghost use Rattle.capture.specs.Messages.{statement as statement_message};
 ghost use Rattle.capture.specs.Kinds.{kinds};
 ghost use Rattle.capture.specs.Sizes.{reader_counts, reader_statements};
 ghost use Rattle.capture.specs.Views.{change_of, statement_of};
-ghost use Rattle.iterator.specs.Readers.{tables, Sized, Fed};
+ghost use Rattle.progress.specs.Tables.{time_of, progress_of};
 
-use super::Held;
-use crate::taking::weigh_statement;
+use super::feeding::Feeding;
 use capture::{Progress, StoredProgress};
 use frontier::steps;
 use lattice::{PartialOrder, Same, Timestamp};
+use progress::{Lengths, advance, lower_edge};
 use questions::Refusal;
 
-impl Held {
+impl<'a, D: Same + Copy, T: Timestamp + Copy, R: Same + Copy> Feeding<'a, D, T, R> {
+    ghost use Rattle.iterator.specs.Feeding.{Ready, WeighsStatement, Takes};
+
+    // Finds out what a statement would make of the reader's progress, and the lower edge then.  Tells
+    // how much of each scratch table is in use.
+    fn weigh_statement(
+        &self,
+        statement: Progress<'_, T>,
+        times: &mut [T],
+        sums: &mut [(T, i64)],
+        statements: &mut [StoredProgress<T>],
+        edge: &mut [T],
+    ) -> Result<(Lengths, usize), Refusal>
+        requires reader { Ready self.now }
+        requires scratch { (frontier_size ≤ length times.old) × (reader_counts ≤ length sums.old) × (reader_statements ≤ length statements.old) × (frontier_size ≤ length edge.old) }
+        ensures { WeighsStatement (time_of T.PartialOrder.below T.Lattice.joined T.Timestamp.start) T.PartialOrder.value result (statement_of T.PartialOrder.value statement.entry) (progress_of T.PartialOrder.value self.now.reader.now.progress self.now.frontier.now self.now.counts.now self.now.waiting.now) times.new sums.new statements.new edge.new }
+    {
+        let lengths = self.reader.progress;
+        steps::copy_entries(self.frontier, times, lengths.frontier);
+        steps::copy_entries(self.counts, sums, lengths.counts);
+        steps::copy_entries(self.waiting, statements, lengths.waiting);
+        let n = advance(statement, times, sums, statements, lengths, edge)?;
+        let left = &sums[..];
+        let (len, stated) = (n.frontier, n.counts);
+        let end = lower_edge(&times[0..len], &left[0..stated], edge)?;
+        Ok((n, end))
+    }
+
     // Takes in a statement.  Whether every question is answered yes is found out in scratch tables,
     // before anything of the reader is written.
-    pub(crate) fn feed_statement<D: Same + Copy, T: Timestamp + Copy, R: Same + Copy>(
-        &mut self,
+    pub(super) fn take_statement(
+        self,
         statement: Progress<'_, T>,
-        frontier: &mut [T],
-        reported: &mut [T],
-        counts: &mut [(T, i64)],
-        held: &mut [(D, T, R)],
-        waiting: &mut [StoredProgress<T>],
-        published: &mut [(D, T, R)],
-        told: &mut [T],
         times: &mut [T],
         sums: &mut [(T, i64)],
         statements: &mut [StoredProgress<T>],
         edge: &mut [T],
     ) -> Result<Option<(usize, usize)>, Refusal>
-        requires { (Sized self.old (tables frontier.old reported.old counts.old held.old waiting.old) published.old told.old) × ((frontier_size ≤ length times.old) × (reader_counts ≤ length sums.old) × (reader_statements ≤ length statements.old) × (frontier_size ≤ length edge.old)) }
-        ensures { Fed T.PartialOrder.value (change_of D.Same.value T.PartialOrder.value R.Same.value) (kinds D.Same.alike T.PartialOrder.below T.Lattice.joined T.Timestamp.start R.Same.alike) true (statement_message (statement_of T.PartialOrder.value statement.entry)) result
-            self.old (tables frontier.old reported.old counts.old held.old waiting.old)
-            self.new (tables frontier.new reported.new counts.new held.new waiting.new)
-            published.old published.new told.old told.new }
+        requires reader { Ready self }
+        requires scratch { (frontier_size ≤ length times.old) × (reader_counts ≤ length sums.old) × (reader_statements ≤ length statements.old) × (frontier_size ≤ length edge.old) }
+        ensures { Takes (kinds D.Same.alike T.PartialOrder.below T.Lattice.joined T.Timestamp.start R.Same.alike) T.PartialOrder.value (change_of D.Same.value T.PartialOrder.value R.Same.value) (statement_message (statement_of T.PartialOrder.value statement.entry)) result self.entry self.exit }
     {
-        let (n, end) = weigh_statement(
-            statement,
-            self.progress,
+        let (n, end) = self.weigh_statement(statement, times, sums, statements, edge)?;
+        let Feeding {
+            reader,
             frontier,
+            reported,
             counts,
+            held,
             waiting,
-            times,
-            sums,
-            statements,
-            edge,
-        )?;
+            published,
+            told,
+        } = self;
         steps::copy_entries(times, frontier, n.frontier);
         steps::copy_entries(sums, counts, n.counts);
         steps::copy_entries(statements, waiting, n.waiting);
-        self.progress = n;
-        Ok(self.let_out(&edge[0..end], reported, held, published, told))
+        reader.progress = n;
+        Ok(reader.let_out(&edge[0..end], reported, held, published, told))
     }
 }
