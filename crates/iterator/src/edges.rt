@@ -6,12 +6,14 @@ ghost use Rattle.capture.specs.Sizes.{reader_changes};
 ghost use Rattle.capture.specs.Views.{change_of};
 ghost use Rattle.iterator.specs.Intervals.{LetsOut};
 
-use frontier::{antichain_equal, is_beyond, steps};
+use frontier::entries::copy_entries;
+use frontier::{antichain_equal, is_beyond};
 use lattice::{PartialOrder, Same};
 use progress::keep_beyond;
 
 // Copies the changes behind the frontier to the front of a table, in their order, and tells how many
-// they are; entries past those are left alone.
+// they are; entries past those are left alone.  The place is counted here, since after a chain that
+// writes through its closure nothing is known of the table.
 pub(crate) fn copy_behind<D: Same + Copy, T: PartialOrder + Copy, R: Same + Copy>(
     changes: &[(D, T, R)],
     frontier: &[T],
@@ -52,7 +54,7 @@ pub(crate) fn publish<D: Same + Copy, T: PartialOrder + Copy, R: Same + Copy>(
     let n = copy_behind(&all[0..len], edge, published);
     keep_beyond(held, len, edge);
     let m = edge.len();
-    steps::copy_entries(edge, reported, m);
-    steps::copy_entries(edge, told, m);
+    copy_entries(edge, reported, m);
+    copy_entries(edge, told, m);
     Some((n, m))
 }

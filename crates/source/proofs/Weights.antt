@@ -1,119 +1,53 @@
 -- What changes, and the waiting counts, come to when they are weighed in scratch tables.
-use Rattle.std.proofs.Common.{◌≡◌, ℕ, ◌+◌, ◌-◌, ◌<◌, ◌≤◌, Bool, true, false, leb, List, [], ◌∷◌, ◌++◌, map, length, take, ℤ, Some, None, Ok, Err, sym, ap, ◌∙◌, arith}
-use Rattle.std.proofs.lemmas.List.{length-map, length-append, take_all}
+use Rattle.std.proofs.Common.{◌≡◌, ℕ, ◌-◌, ◌<◌, ◌≤◌, Bool, true, false, List, [], ◌∷◌, map, length, take, ℤ, Some, None, Ok, Err, Result, sym, ap, ◌∙◌, arith}
+use Rattle.std.proofs.lemmas.List.{length-map, take_all}
 use Rattle.std.proofs.lemmas.Bool.{le-leb, lt-leb}
 use Rattle.questions.specs.declared.Refusal.{Refusal}
-use Rattle.questions.specs.declared.Refusal.TheVariants.{LongMessage, OtherAmount, ManyChanges}
+use Rattle.questions.specs.declared.Refusal.TheVariants.{LongMessage, OtherAmount}
 use Rattle.questions.specs.Questions.{first_no, number_of}
-use Rattle.questions.proofs.Asking.{ask_next, ask_here}
+use Rattle.questions.proofs.Asking.{ask_next, ask_here, answered_so}
 use Rattle.frontier.specs.Counts.{added_all, room, positives}
 use Rattle.frontier.specs.Frontiers.{inserted_all, fits}
 use Rattle.frontier.specs.Tables.{in_use, Holds, counted, table_asks, frontier_asks, frontier_size}
 use Rattle.frontier.proofs.Filling.{fit_length, adding}
 use Rattle.frontier.proofs.Tables.{sub_zero, length_in_use, accepted, refused_full}
 use Rattle.capture.specs.Kinds.{Kinds}
-use Rattle.capture.specs.Messages.{Change, short_changes, fresh}
+use Rattle.capture.specs.Messages.{Change, short_changes}
 use Rattle.capture.specs.Prompt.{undisputed}
-use Rattle.capture.specs.Sizes.{message_changes, reader_changes, reader_counts}
-use Rattle.capture.specs.Statements.{lowered}
-use Rattle.source.specs.Weighing.{Weighed, Brought, sums_asks}
+use Rattle.capture.specs.Sizes.{message_changes, reader_counts}
+use Rattle.progress.specs.Weighing.{fresh_asks, FreshWeighed}
+use Rattle.progress.specs.declared.weighing.Weighed.{Weighed}
+use Rattle.source.specs.Weighing.{ChangesWeighed, Brought, sums_asks}
 
--- questions 2, 8, 9 and 11, one after the other
-module _ (a b c d : Bool) where
-  abbrev asks : List (Bool × ℕ)
-  asks = (a, 2) ∷ (b, 8) ∷ (c, 9) ∷ (d, 11) ∷ []
-
-  at_2 : a ≡ false → first_no asks ≡ Some 2
-  at_2 ea = ask_here a 2 ((b, 8) ∷ (c, 9) ∷ (d, 11) ∷ []) ea
-
-  module _ (ea : a ≡ true) where
-    past_2 : first_no asks ≡ first_no ((b, 8) ∷ (c, 9) ∷ (d, 11) ∷ [])
-    past_2 = ask_next a 2 ((b, 8) ∷ (c, 9) ∷ (d, 11) ∷ []) ea
-
-    at_8 : b ≡ false → first_no asks ≡ Some 8
-    at_8 eb = past_2 ∙ ask_here b 8 ((c, 9) ∷ (d, 11) ∷ []) eb
-
-    module _ (eb : b ≡ true) where
-      past_8 : first_no asks ≡ first_no ((c, 9) ∷ (d, 11) ∷ [])
-      past_8 = past_2 ∙ ask_next b 8 ((c, 9) ∷ (d, 11) ∷ []) eb
-
-      at_9 : c ≡ false → first_no asks ≡ Some 9
-      at_9 ec = past_8 ∙ ask_here c 9 ((d, 11) ∷ []) ec
-
-      at_11 : c ≡ true → first_no asks ≡ first_no ((d, 11) ∷ [])
-      at_11 ec = past_8 ∙ ask_next c 9 ((d, 11) ∷ []) ec
-
+-- changes by the parts of a reader's tables that are in use
 module _ {X Y D A R : Type 0} (k : Kinds D A R) (value : Y → A) (reads : X → Change D A R) (cs : List X) (heeded : List Y) (pending : List X) (sums : List (Y × ℤ)) where
-  -- the changes that are new
-  abbrev pub news : List (Change D A R)
-  news = fresh k (map value heeded) (map reads pending) (map reads cs)
-
   abbrev brief : Bool
   brief = short_changes (map reads cs)
 
   abbrev clear : Bool
   clear = undisputed k (map value heeded) (map reads pending) (map reads cs)
 
-  abbrev few : Bool
-  few = leb (length (map reads pending ++ news)) reader_changes
-
-  abbrev roomy : Bool
-  roomy = room k.time.below reader_counts (map (counted value) sums) (lowered news)
+  abbrev asks : List (Bool × ℕ)
+  asks = fresh_asks k (map value heeded) (map reads pending) (map (counted value) sums) (map reads cs)
 
   -- a refusal leaves anything in the scratch tables
   module _ (new : List X) (scratch : List (Y × ℤ)) where
-    pub weighed_long : message_changes < length cs → Weighed k value reads (Err LongMessage) cs heeded pending sums new scratch
-    unfolding Weighed
-    weighed_long h = (at_2 brief clear few roomy (lt-leb (length (map reads cs)) message_changes (omega (arith, length-map cs reads))), tt)
+    pub weighed_long : message_changes < length cs → ChangesWeighed k value reads (Err LongMessage) cs heeded pending sums new scratch
+    unfolding ChangesWeighed
+    weighed_long h = (ask_here brief 2 ((clear, 8) ∷ asks) (lt-leb (length (map reads cs)) message_changes (omega (arith, length-map cs reads))), tt)
 
-    pub weighed_disputed : length cs ≤ message_changes → clear ≡ false → Weighed k value reads (Err OtherAmount) cs heeded pending sums new scratch
-    unfolding Weighed
-    weighed_disputed h e = (at_8 brief clear few roomy (le-leb (length (map reads cs)) message_changes (omega (arith, length-map cs reads))) e, tt)
+    module _ (h : length cs ≤ message_changes) where
+      past_2 : first_no ((brief, 2) ∷ (clear, 8) ∷ asks) ≡ first_no ((clear, 8) ∷ asks)
+      past_2 = ask_next brief 2 ((clear, 8) ∷ asks) (le-leb (length (map reads cs)) message_changes (omega (arith, length-map cs reads)))
 
-  -- the new changes stand first in a table
-  module _ (short : length cs ≤ message_changes) (plain : clear ≡ true) (n : ℕ) (new : List X) (made : in_use reads n new ≡ news) (long : n ≤ length new) where
-    is_brief : brief ≡ true
-    is_brief = le-leb (length (map reads cs)) message_changes (omega (arith, length-map cs reads))
+      pub weighed_disputed : clear ≡ false → ChangesWeighed k value reads (Err OtherAmount) cs heeded pending sums new scratch
+      unfolding ChangesWeighed
+      weighed_disputed e = (past_2 ∙ ask_here clear 8 asks e, tt)
 
-    as_many : length news ≡ n
-    as_many = ap length (sym made) ∙ length_in_use reads n new long
-
-    pub weighed_many : reader_changes < length pending + n → (new' : List X) (scratch : List (Y × ℤ)) → Weighed k value reads (Err ManyChanges) cs heeded pending sums new' scratch
-    unfolding Weighed
-    weighed_many h new' scratch = (at_9 brief clear few roomy is_brief plain (lt-leb (length (map reads pending ++ news)) reader_changes (omega (arith, length-append (map reads pending) news, length-map pending reads, as_many))), tt)
-
-    -- the waiting counts stand first in another, and are lowered there
-    module _ (fits : length pending + n ≤ reader_changes) (within : length sums ≤ reader_counts) (table : List (Y × ℤ)) (wide : reader_counts ≤ length table) (copied : take (length sums) table ≡ take (length sums) sums) where
-      abbrev pub start : List (A × ℤ)
-      start = in_use (counted value) (length sums) table
-
-      abbrev pub steps : List (A × ℤ)
-      steps = lowered (map reads (take (n - 0) new))
-
-      is_few : few ≡ true
-      is_few = le-leb (length (map reads pending ++ news)) reader_changes (omega (arith, length-append (map reads pending) news, length-map pending reads, as_many))
-
-      start_is : start ≡ map (counted value) sums
-      start_is = ap (map (counted value)) (copied ∙ take_all (length sums) sums (omega arith))
-
-      steps_are : steps ≡ lowered news
-      steps_are = ap lowered (ap (λ j. in_use reads j new) (sub_zero n) ∙ made)
-
-      room_is : room k.time.below reader_counts start steps ≡ roomy
-      room_is = ap (λ es. room k.time.below reader_counts es steps) start_is ∙ ap (room k.time.below reader_counts (map (counted value) sums)) steps_are
-
-      pub weighed_full : (f : Refusal) → first_no (table_asks reader_counts 11 (length table) (length sums) (room k.time.below reader_counts start steps)) ≡ Some (number_of f) → (new' : List X) (scratch : List (Y × ℤ)) → Weighed k value reads (Err f) cs heeded pending sums new' scratch
-      unfolding Weighed
-      weighed_full f e new' scratch =
-          let full = refused_full reader_counts 11 (length table) (length sums) (room k.time.below reader_counts start steps) within wide (number_of f) e in
-          (at_11 brief clear few roomy is_brief plain is_few ∙ ask_here roomy 11 [] (sym room_is ∙ full.0) ∙ ap Some (sym full.1), tt)
-
-      pub weighed : (m : ℕ) (scratch : List (Y × ℤ)) → first_no (table_asks reader_counts 11 (length table) (length sums) (room k.time.below reader_counts start steps)) ≡ None → Holds (counted value) m scratch (added_all k.time.below start steps) → Weighed k value reads (Ok (n, m)) cs heeded pending sums new scratch
-      unfolding Weighed
-      weighed m scratch e sum =
-          let fit = (accepted reader_counts 11 (length table) (length sums) (room k.time.below reader_counts start steps) e).2 in
-          let sums_are : added_all k.time.below start steps ≡ added_all k.time.below (map (counted value) sums) (lowered news) = ap (λ es. added_all k.time.below es steps) start_is ∙ ap (added_all k.time.below (map (counted value) sums)) steps_are in
-          (at_11 brief clear few roomy is_brief plain is_few ∙ ask_next roomy 11 [] (sym room_is ∙ fit), ((made, as_many), (sum.0 ∙ sums_are, sym (ap length sums_are) ∙ sum.1)))
+      -- the new ones are weighed
+      pub weighed : clear ≡ true → (r : Result Weighed Refusal) → FreshWeighed k value reads r cs heeded pending sums new scratch → ChangesWeighed k value reads r cs heeded pending sums new scratch
+      unfolding ChangesWeighed
+      weighed e r = answered_so r asks ((brief, 2) ∷ (clear, 8) ∷ asks) (sym (past_2 ∙ ask_next clear 8 asks e)) (λ _ w. w) (λ u. u)
 
 -- waiting counts are brought in: the counts stand first in a table
 module _ {Y A : Type 0} (below : A → A → Bool) (value : Y → A) (frontier : List Y) (counts sums : List (Y × ℤ)) (few : length frontier ≤ frontier_size) (within : length counts ≤ reader_counts) (table : List (Y × ℤ)) (wide : reader_counts ≤ length table) (copied : take (length counts) table ≡ take (length counts) counts) where

@@ -1,33 +1,28 @@
 -- What a message or a settle would make of a prompt reader, found out in scratch tables.
-use Rattle.std.specs.Prelude.{ℕ, Bool, List, [], ◌∷◌, ◌++◌, map, length, ℤ, Result, nat_le}
+use Rattle.std.specs.Prelude.{ℕ, Bool, List, [], ◌∷◌, map, ℤ, Result}
 use Rattle.questions.specs.declared.Refusal.{Refusal}
 use Rattle.questions.specs.Answers.{Answered}
 use Rattle.frontier.specs.Counts.{added_all, room, positives}
 use Rattle.frontier.specs.Frontiers.{inserted_all, fits}
 use Rattle.frontier.specs.Tables.{Holds, counted, frontier_size}
 use Rattle.capture.specs.Kinds.{Kinds}
-use Rattle.capture.specs.Messages.{Change, short_changes, fresh}
+use Rattle.capture.specs.Messages.{Change, short_changes}
 use Rattle.capture.specs.Prompt.{undisputed}
-use Rattle.capture.specs.Sizes.{reader_changes, reader_counts}
-use Rattle.capture.specs.Statements.{lowered}
+use Rattle.capture.specs.Sizes.{reader_counts}
+use Rattle.progress.specs.Weighing.{fresh_asks, HoldsWeighed}
+use Rattle.progress.specs.declared.weighing.Weighed.{Weighed}
 
 module _ {D A R : Type 0} (k : Kinds D A R) where
   -- what sift asks of changes, once the tables are at least their sizes, by the heeded frontier, the pending changes and the waiting counts
   abbrev pub changes_asks : List A → List (Change D A R) → List (A × ℤ) → List (Change D A R) → List (Bool × ℕ)
-  changes_asks heeded pending sums cs =
-      (short_changes cs, 2) ∷ (undisputed k heeded pending cs, 8) ∷ (nat_le (length (pending ++ fresh k heeded pending cs)) reader_changes, 9) ∷
-      (room k.time.below reader_counts sums (lowered (fresh k heeded pending cs)), 11) ∷ []
-
-  -- the waiting counts that the changes leave
-  abbrev pub lowered_sums : List A → List (Change D A R) → List (A × ℤ) → List (Change D A R) → List (A × ℤ)
-  lowered_sums heeded pending sums cs = added_all k.time.below sums (lowered (fresh k heeded pending cs))
+  changes_asks heeded pending sums cs = (short_changes cs, 2) ∷ (undisputed k heeded pending cs, 8) ∷ fresh_asks k heeded pending sums cs
 
 module _ {X Y D A R : Type 0} (k : Kinds D A R) (value : Y → A) (reads : X → Change D A R) where
-  -- changes are weighed: the new ones, and the waiting counts then, stand first in the scratch tables, as many as the two numbers say
-  unfoldable pub Weighed : Result (ℕ × ℕ) Refusal → (cs : List X) (heeded : List Y) (pending : List X) (sums : List (Y × ℤ)) (new : List X) (scratch : List (Y × ℤ)) → Type 0
-  Weighed r cs heeded pending sums new scratch =
+  -- changes are weighed: the new ones, and the waiting counts then, stand first in the scratch tables
+  unfoldable pub ChangesWeighed : Result Weighed Refusal → (cs : List X) (heeded : List Y) (pending : List X) (sums : List (Y × ℤ)) (new : List X) (scratch : List (Y × ℤ)) → Type 0
+  ChangesWeighed r cs heeded pending sums new scratch =
       Answered r (changes_asks k (map value heeded) (map reads pending) (map (counted value) sums) (map reads cs))
-      (λ n. Holds reads n.0 new (fresh k (map value heeded) (map reads pending) (map reads cs)) × Holds (counted value) n.1 scratch (lowered_sums k (map value heeded) (map reads pending) (map (counted value) sums) (map reads cs)))
+      (λ w. HoldsWeighed k value reads w cs heeded pending sums new scratch)
       (Unit {0})
 
 module _ {Y A : Type 0} (below : A → A → Bool) (value : Y → A) where

@@ -20,12 +20,7 @@ fn differ_in_amount<D: Same, T: Timestamp, R: Same>(one: &(D, T, R), other: &(D,
 fn is_disputed<D: Same, T: Timestamp, R: Same>(list: &[(D, T, R)], change: &(D, T, R)) -> bool
     ensures { result ≡ disputed (kinds D.Same.alike T.PartialOrder.below T.Lattice.joined T.Timestamp.start R.Same.alike) (map (change_of D.Same.value T.PartialOrder.value R.Same.value) list.now) (change_of D.Same.value T.PartialOrder.value R.Same.value change.now) }
 {
-    for e in list {
-        if differ_in_amount(e, change) {
-            return true;
-        }
-    }
-    false
+    list.iter().any(|e| differ_in_amount(e, change))
 }
 
 // Whether a change is beyond the frontier, and disputed by a pending or an earlier one.

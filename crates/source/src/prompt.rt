@@ -2,7 +2,8 @@
 //
 // The tables themselves are handed to each call, and to each only those that it needs: the progress,
 // the reported and the heeded frontier, the counts and the waiting counts, the pending changes, and
-// the waiting statements.
+// the waiting statements.  So they come one by one: no two of them come together to three calls in the
+// same way, to be read or to be written.
 ghost use Rattle.std.specs.Prelude.{◌≡◌};
 
 use progress::Lengths;

@@ -9,9 +9,9 @@ ghost use Rattle.iterator.specs.Readers.{held_in};
 
 use super::feeding::Feeding;
 use capture::MESSAGE_CHANGES;
-use frontier::steps;
+use frontier::entries::{append_entries, copy_entries};
 use lattice::{PartialOrder, Same, Timestamp};
-use progress::{Weighed, append_entries, lower_edge, weigh_fresh};
+use progress::{Weighed, lower_edge, weigh_fresh};
 use questions::Refusal;
 
 impl<'a, D: Same + Copy, T: Timestamp + Copy, R: Same + Copy> Feeding<'a, D, T, R> {
@@ -72,7 +72,7 @@ impl<'a, D: Same + Copy, T: Timestamp + Copy, R: Same + Copy> Feeding<'a, D, T, 
             ..
         } = self;
         let kept = reader.held;
-        steps::copy_entries(sums, counts, w.counts);
+        copy_entries(sums, counts, w.counts);
         append_entries(new, w.new, held, kept);
         reader.progress.counts = w.counts;
         reader.held = kept + w.new;

@@ -9,7 +9,7 @@ ghost use Rattle.progress.specs.Tables.{time_of, progress_of};
 
 use super::feeding::Feeding;
 use capture::{Progress, StoredProgress};
-use frontier::steps;
+use frontier::entries::copy_entries;
 use lattice::{PartialOrder, Same, Timestamp};
 use progress::{Lengths, advance, lower_edge};
 use questions::Refusal;
@@ -32,9 +32,9 @@ impl<'a, D: Same + Copy, T: Timestamp + Copy, R: Same + Copy> Feeding<'a, D, T, 
         ensures { WeighsStatement (time_of T.PartialOrder.below T.Lattice.joined T.Timestamp.start) T.PartialOrder.value result (statement_of T.PartialOrder.value statement.entry) (progress_of T.PartialOrder.value self.now.reader.now.progress self.now.frontier.now self.now.counts.now self.now.waiting.now) times.new sums.new statements.new edge.new }
     {
         let lengths = self.reader.progress;
-        steps::copy_entries(self.frontier, times, lengths.frontier);
-        steps::copy_entries(self.counts, sums, lengths.counts);
-        steps::copy_entries(self.waiting, statements, lengths.waiting);
+        copy_entries(self.frontier, times, lengths.frontier);
+        copy_entries(self.counts, sums, lengths.counts);
+        copy_entries(self.waiting, statements, lengths.waiting);
         let n = advance(statement, times, sums, statements, lengths, edge)?;
         let left = &sums[..];
         let (len, stated) = (n.frontier, n.counts);
@@ -67,9 +67,9 @@ impl<'a, D: Same + Copy, T: Timestamp + Copy, R: Same + Copy> Feeding<'a, D, T, 
             published,
             told,
         } = self;
-        steps::copy_entries(times, frontier, n.frontier);
-        steps::copy_entries(sums, counts, n.counts);
-        steps::copy_entries(statements, waiting, n.waiting);
+        copy_entries(times, frontier, n.frontier);
+        copy_entries(sums, counts, n.counts);
+        copy_entries(statements, waiting, n.waiting);
         reader.progress = n;
         Ok(reader.let_out(&edge[0..end], reported, held, published, told))
     }

@@ -4,7 +4,7 @@ ghost use Rattle.capture.specs.Views.{change_of};
 ghost use Rattle.source.specs.Calls.{Heeded};
 
 use super::Prompt;
-use frontier::steps;
+use frontier::entries::copy_entries;
 use lattice::{PartialOrder, Same, Timestamp};
 use progress::keep_beyond;
 use questions::Refusal;
@@ -23,7 +23,7 @@ impl Prompt {
             return Err(Refusal::ShortTable);
         }
         let times = self.reported;
-        steps::copy_entries(reported, heeded, times);
+        copy_entries(reported, heeded, times);
         self.heeded = times;
         self.pending = keep_beyond(pending, self.pending, &reported[0..times]);
         Ok(())

@@ -3,7 +3,7 @@ ghost use Rattle.source.specs.Calls.{Settled, timed, bare};
 
 use super::Prompt;
 use crate::weighing::bring_in;
-use frontier::steps;
+use frontier::entries::copy_entries;
 use lattice::{PartialOrder, Timestamp};
 use questions::Refusal;
 
@@ -37,8 +37,8 @@ impl Prompt {
             sums,
             edge,
         )?;
-        steps::copy_entries(sums, counts, n);
-        steps::copy_entries(edge, reported, m);
+        copy_entries(sums, counts, n);
+        copy_entries(edge, reported, m);
         self.progress.counts = n;
         self.waiting_counts = 0;
         self.reported = m;

@@ -5,9 +5,8 @@ ghost use Rattle.source.specs.Calls.{Sifted};
 
 use super::Prompt;
 use crate::weighing::weigh_changes;
-use frontier::steps;
+use frontier::entries::{append_entries, copy_entries};
 use lattice::{PartialOrder, Same, Timestamp};
-use progress::append_entries;
 use questions::Refusal;
 
 impl Prompt {
@@ -31,7 +30,7 @@ impl Prompt {
         let (times, len, kept) = (self.heeded, self.waiting_counts, self.pending);
         let counts = &waiting_counts[..];
         let all = &pending[..];
-        let (n, m) = weigh_changes(
+        let w = weigh_changes(
             changes,
             &heeded[0..times],
             &all[0..kept],
@@ -39,11 +38,11 @@ impl Prompt {
             new,
             sums,
         )?;
-        steps::copy_entries(sums, waiting_counts, m);
-        append_entries(new, n, pending, kept);
-        steps::copy_entries(new, shipped, n);
-        self.waiting_counts = m;
-        self.pending = kept + n;
-        Ok(n)
+        copy_entries(sums, waiting_counts, w.counts);
+        append_entries(new, w.new, pending, kept);
+        copy_entries(new, shipped, w.new);
+        self.waiting_counts = w.counts;
+        self.pending = kept + w.new;
+        Ok(w.new)
     }
 }

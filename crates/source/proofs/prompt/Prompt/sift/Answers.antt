@@ -41,14 +41,14 @@ weigh_changes-requires g c =
     let sizes = sift_told c.args.self.now c.args.heeded.now c.args.waiting_counts.now c.args.pending.now c.args.shipped.now c.args.new.now c.args.sums.now fit in
     (simp length-take (omega (arith, sizes.2)), simp length-take (omega (arith, sizes.1)), sizes.4, sizes.5)
 
-pub returns-in_err-n : goal.returns-in_err-n
-returns-in_err-n g c =
+pub returns-in_err-w : goal.returns-in_err-w
+returns-in_err-w g c =
     let o = g.T.PartialOrder in
     let k = kinds g.D.Same.alike o.below g.T.Lattice.joined g.T.Timestamp.start g.R.Same.alike in
     let reads = change_of g.D.Same.value o.value g.R.Same.value in
     let fit = sym c.are_sift_sized.ensures ∙ c.if-not-are_sift_sized.false in
     let q = err_from_is_err_and c.from_residual.result c.from_residual.ensures.1 in
-    rw (q.1, q.2) (sift_refused k o.value reads c.args.changes.now c.args.self.now c.args.heeded.now c.args.waiting_counts.now c.args.pending.now c.args.shipped.now c.args.new.now c.args.sums.now fit c.in_err-n.field-0.0 c.weigh_changes.new.new c.weigh_changes.new.sums c.in_err-n.ensures)
+    rw (q.1, q.2) (sift_refused k o.value reads c.args.changes.now c.args.self.now c.args.heeded.now c.args.waiting_counts.now c.args.pending.now c.args.shipped.now c.args.new.now c.args.sums.now fit c.in_err-w.field-0.0 c.weigh_changes.new.new c.weigh_changes.new.sums c.in_err-w.ensures)
 
 pub copy_entries-requires : goal.copy_entries-requires
 copy_entries-requires g c =
@@ -57,7 +57,7 @@ copy_entries-requires g c =
     let reads = change_of g.D.Same.value o.value g.R.Same.value in
     let fit = sym c.are_sift_sized.ensures ∙ c.if-not-are_sift_sized.false in
     let sizes = sift_told c.args.self.now c.args.heeded.now c.args.waiting_counts.now c.args.pending.now c.args.shipped.now c.args.new.now c.args.sums.now fit in
-    let few = weighed_fits k o.value reads c.args.changes.now c.args.self.now c.args.heeded.now c.args.waiting_counts.now c.args.pending.now c.in_ok-n.n c.in_ok-n.m c.weigh_changes.new.new c.weigh_changes.new.sums (omega (arith, sizes.2)) sizes.1.0 (omega (arith, sizes.1)) c.in_ok-n.ensures in
+    let few = weighed_fits k o.value reads c.args.changes.now c.args.self.now c.args.heeded.now c.args.waiting_counts.now c.args.pending.now c.in_ok-w.w c.weigh_changes.new.new c.weigh_changes.new.sums c.in_ok-w.ensures (omega (arith, sizes.2)) in
     (omega (arith, few.1, sizes.5, c.weigh_changes.auto.sums), omega (arith, few.1, sizes.1))
 
 pub append_entries-requires : goal.append_entries-requires
@@ -67,7 +67,7 @@ append_entries-requires g c =
     let reads = change_of g.D.Same.value o.value g.R.Same.value in
     let fit = sym c.are_sift_sized.ensures ∙ c.if-not-are_sift_sized.false in
     let sizes = sift_told c.args.self.now c.args.heeded.now c.args.waiting_counts.now c.args.pending.now c.args.shipped.now c.args.new.now c.args.sums.now fit in
-    let few = weighed_fits k o.value reads c.args.changes.now c.args.self.now c.args.heeded.now c.args.waiting_counts.now c.args.pending.now c.in_ok-n.n c.in_ok-n.m c.weigh_changes.new.new c.weigh_changes.new.sums (omega (arith, sizes.2)) sizes.1.0 (omega (arith, sizes.1)) c.in_ok-n.ensures in
+    let few = weighed_fits k o.value reads c.args.changes.now c.args.self.now c.args.heeded.now c.args.waiting_counts.now c.args.pending.now c.in_ok-w.w c.weigh_changes.new.new c.weigh_changes.new.sums c.in_ok-w.ensures (omega (arith, sizes.2)) in
     (omega (arith, few.0, sizes.4, c.weigh_changes.auto.new), omega (arith, few.0, sizes.2))
 
 pub copy_entries-requires-2 : goal.copy_entries-requires-2
@@ -77,7 +77,7 @@ copy_entries-requires-2 g c =
     let reads = change_of g.D.Same.value o.value g.R.Same.value in
     let fit = sym c.are_sift_sized.ensures ∙ c.if-not-are_sift_sized.false in
     let sizes = sift_told c.args.self.now c.args.heeded.now c.args.waiting_counts.now c.args.pending.now c.args.shipped.now c.args.new.now c.args.sums.now fit in
-    let few = weighed_fits k o.value reads c.args.changes.now c.args.self.now c.args.heeded.now c.args.waiting_counts.now c.args.pending.now c.in_ok-n.n c.in_ok-n.m c.weigh_changes.new.new c.weigh_changes.new.sums (omega (arith, sizes.2)) sizes.1.0 (omega (arith, sizes.1)) c.in_ok-n.ensures in
+    let few = weighed_fits k o.value reads c.args.changes.now c.args.self.now c.args.heeded.now c.args.waiting_counts.now c.args.pending.now c.in_ok-w.w c.weigh_changes.new.new c.weigh_changes.new.sums c.in_ok-w.ensures (omega (arith, sizes.2)) in
     (omega (arith, few.0, sizes.4, c.weigh_changes.auto.new), omega (arith, few.0, sizes.3))
 
 pub overflow_add-self : goal.overflow_add-self
@@ -87,7 +87,7 @@ overflow_add-self g c =
     let reads = change_of g.D.Same.value o.value g.R.Same.value in
     let fit = sym c.are_sift_sized.ensures ∙ c.if-not-are_sift_sized.false in
     let sizes = sift_told c.args.self.now c.args.heeded.now c.args.waiting_counts.now c.args.pending.now c.args.shipped.now c.args.new.now c.args.sums.now fit in
-    let few = weighed_fits k o.value reads c.args.changes.now c.args.self.now c.args.heeded.now c.args.waiting_counts.now c.args.pending.now c.in_ok-n.n c.in_ok-n.m c.weigh_changes.new.new c.weigh_changes.new.sums (omega (arith, sizes.2)) sizes.1.0 (omega (arith, sizes.1)) c.in_ok-n.ensures in
+    let few = weighed_fits k o.value reads c.args.changes.now c.args.self.now c.args.heeded.now c.args.waiting_counts.now c.args.pending.now c.in_ok-w.w c.weigh_changes.new.new c.weigh_changes.new.sums c.in_ok-w.ensures (omega (arith, sizes.2)) in
     omega (arith, few.0)
 
 pub returns : goal.returns
@@ -96,4 +96,4 @@ returns g c =
     let k = kinds g.D.Same.alike o.below g.T.Lattice.joined g.T.Timestamp.start g.R.Same.alike in
     let reads = change_of g.D.Same.value o.value g.R.Same.value in
     let fit = sym c.are_sift_sized.ensures ∙ c.if-not-are_sift_sized.false in
-    sift_done k o.value reads c.args.changes.now c.args.self.now c.args.heeded.now c.args.waiting_counts.now c.args.pending.now c.args.shipped.now c.args.new.now c.args.sums.now fit c.in_ok-n.n c.in_ok-n.m c.weigh_changes.new.new c.weigh_changes.new.sums c.in_ok-n.ensures c.copy_entries.new.to c.append_entries.new.to c.copy_entries-2.new.to c.copy_entries.ensures.front c.append_entries.ensures c.copy_entries-2.ensures.front c.copy_entries-2.ensures.rest
+    sift_done k o.value reads c.args.changes.now c.args.self.now c.args.heeded.now c.args.waiting_counts.now c.args.pending.now c.args.shipped.now c.args.new.now c.args.sums.now fit c.in_ok-w.w c.weigh_changes.new.new c.weigh_changes.new.sums c.in_ok-w.ensures c.copy_entries.new.to c.append_entries.new.to c.copy_entries-2.new.to c.copy_entries.ensures.front c.append_entries.ensures.front c.copy_entries-2.ensures.front c.copy_entries-2.ensures.rest

@@ -61,7 +61,7 @@ returns g c =
     let tn = tables f.frontier.now f.reported.now C V f.waiting.now in
     let drops = c.saturating_add-reader.result in
     let hn : Held = record { progress = record { frontier = s.progress.frontier; counts = w.counts; waiting = s.progress.waiting }; reported = s.reported; held = s.held + w.new; drops = drops } in
-    let made = taken k o.value reads s t (omega (arith, c.requires.reader.0.4, c.requires.reader.4)) c.args.changes.now told.0 w c.weigh_changes.new.new told.1.0 c.weigh_changes.new.sums C V drops told.1.1.0 c.copy_entries.ensures.front c.append_entries.ensures c.saturating_add-reader.ensures in
+    let made = taken k o.value reads s t (omega (arith, c.requires.reader.0.4, c.requires.reader.4)) c.args.changes.now told.0 w c.weigh_changes.new.new told.1.0 c.weigh_changes.new.sums C V drops told.1.1.0 c.copy_entries.ensures.front c.append_entries.ensures.front c.saturating_add-reader.ensures in
     let cut_edge = map o.value (take (c.in_ok-w.end - 0) E) in
     let edge : cut_edge ≡ lower_edge k.time (held_in o.value reads hn tn).progress = ap (λ j. in_use o.value j E) (sub_zero c.in_ok-w.end) ∙ told.1.2.0 ∙ sym (ap (λ x. lower_edge k.time x.progress) made) in
     let short : length cut_edge ≤ frontier_size = omega (arith, length-map (take (c.in_ok-w.end - 0) E) o.value, length-take (c.in_ok-w.end - 0) E, told.1.2.2) in
