@@ -31,7 +31,8 @@ overflow_sub-dropped g c =
     let reads = change_of g.D.Same.value o.value g.R.Same.value in
     let f = c.args.self in
     let told = c.in_ok-w.ensures in
-    few_new k o.value reads f.reader.now (own f) (omega (arith, c.requires.reader.0.4, c.requires.reader.4)) c.args.changes.now told.0 c.in_ok-w.w c.weigh_changes.new.new told.1.0
+    let few : c.in_ok-w.w.new ≤ length c.args.changes.now = few_new k o.value reads f.reader.now (own f) (omega (arith, c.requires.reader.0.4, c.requires.reader.4)) c.args.changes.now told.0 c.in_ok-w.w c.weigh_changes.new.new told.1.0 in
+    omega arith
 
 pub let_out-requires : goal.let_out-requires
 let_out-requires g c =
