@@ -1,8 +1,8 @@
 -- How a cut goes on behind the bytes that it has passed, and how bytes part into lines.
 use Rattle.std.proofs.Common.{◌≡◌, ℕ, suc, ◌+◌, ◌-◌, ◌<◌, ◌≤◌, Bool, true, false, cond, eqb, List, [], ◌∷◌, ◌++◌, length, take, drop, Some, None, Option, sym, refl, ap, ◌∙◌, subst, append_assoc, arith}
-use Rattle.std.proofs.lemmas.List.{take_all, length-drop, length-append, append-nil}
+use Rattle.std.proofs.lemmas.List.{take_all, length-drop, length-append, append-nil, drop-drop, drop_at, length_push, take_rest}
 use Rattle.std.proofs.lemmas.Iterator.Adapters.{position_from-zero}
-use Rattle.std.proofs.lemmas.Bool.{eqb-true}
+use Rattle.std.proofs.lemmas.Bool.{eqb-true, eqb-false, eq-eqb, ne_eqb}
 use Rattle.std.specs.Prelude.{◌==◌}
 use Rattle.std.specs.List.{position, position_from}
 use Rattle.lines.specs.Cuts.{with_byte, cut_at, split_from}
@@ -91,5 +91,24 @@ cut_parts mark (b ∷ bs) p e =
     ] in
     case (eqb b mark) refl e
 
-pub cut_length : (mark : ℕ) (bs : List ℕ) (p : List ℕ × List ℕ) → cut_at mark bs ≡ Some p → length bs ≡ length p.1 + (length p.0 + 1)
-cut_length mark bs p e = omega (arith, ap length (cut_parts mark bs p e), length-append p.0 (mark ∷ p.1))
+-- where the bytes from `at` on are cut, the part behind the mark begins so much further on
+pub cut_on_at : (mark : ℕ) (bytes : List ℕ) (at : ℕ) (line behind : List ℕ) → cut_at mark (drop at bytes) ≡ Some (line, behind) → behind ≡ drop (at + (length line + 1)) bytes
+cut_on_at mark bytes at line behind e =
+    let n : length (line ++ mark ∷ []) ≡ length line + 1 = length_push line mark in
+    let parts : drop at bytes ≡ (line ++ mark ∷ []) ++ behind = cut_parts mark (drop at bytes) (line, behind) e ∙ sym (append_assoc line (mark ∷ []) behind) in
+    sym (drop_at (line ++ mark ∷ []) behind (length line + 1) n) ∙ ap (drop (length line + 1)) (sym parts) ∙ drop-drop (length line + 1) at bytes
+
+pub cut_within : (mark : ℕ) (bytes : List ℕ) (at : ℕ) (line behind : List ℕ) → cut_at mark (drop at bytes) ≡ Some (line, behind) → at + (length line + 1) ≤ length bytes
+cut_within mark bytes at line behind e = omega (arith, ap length (cut_parts mark (drop at bytes) (line, behind) e), length-drop at bytes, length-append line (mark ∷ behind))
+
+-- `&bytes[at..]` has all bytes from `at` on
+pub cut_rest : (mark : ℕ) (bytes : List ℕ) (at : ℕ) (o : Option (List ℕ × List ℕ)) → cut_at mark (take (length bytes - at) (drop at bytes)) ≡ o → cut_at mark (drop at bytes) ≡ o
+cut_rest mark bytes at o e = ap (cut_at mark) (sym (take_rest bytes at)) ∙ e
+
+pub none_ahead : (bytes : List ℕ) (at : ℕ) → at ≤ length bytes → eqb at (length bytes) ≡ eqb (length (drop at bytes)) 0
+none_ahead bytes at h =
+    let case : (v : Bool) → eqb at (length bytes) ≡ v → v ≡ eqb (length (drop at bytes)) 0 = λ v. elim v as (λ v. eqb at (length bytes) ≡ v → v ≡ eqb (length (drop at bytes)) 0) [
+      | true ↦ λ e. sym (eq-eqb (length (drop at bytes)) 0 (omega (arith, eqb-true at (length bytes) e, length-drop at bytes)))
+      | false ↦ λ e. sym (ne_eqb (length (drop at bytes)) 0 (λ k. eqb-false at (length bytes) e (omega (arith, length-drop at bytes))))
+    ] in
+    case (eqb at (length bytes)) refl

@@ -1,5 +1,5 @@
 -- What is ahead of a reader of lines.
-use Rattle.std.specs.Prelude.{◌≡◌, ℕ, ◌+◌, ◌^◌, ◌<◌, List, map, length, Err, Result}
+use Rattle.std.specs.Prelude.{◌≡◌, ℕ, ◌<◌, List, map, length, drop, Err, Result}
 use Rattle.lattice.specs.declared.product.Product.{Product}
 use Rattle.timetable.specs.declared.week.Week.{Week}
 use Rattle.timetable.specs.declared.lesson.Lesson.{Lesson}
@@ -16,7 +16,7 @@ use Rattle.lines.specs.declared.line_reader.LineReader.{LineReader}
 
 -- the bytes behind the lines that were handed out
 abbrev pub left : LineReader → List ℕ
-left r = r.rest.now
+left r = drop r.at r.bytes.now
 
 -- what they say, where the lines before lead to d
 abbrev pub ahead : Draft → LineReader → Result (List LessonMessage) ℕ
@@ -34,7 +34,7 @@ follows (completes m) r = with_message m (ahead outside r)
 
 -- one line more can be counted
 abbrev pub CountsOn : LineReader → Type 0
-CountsOn r = r.count + length (left r) + 1 < 2 ^ 64
+CountsOn r = r.count < r.at
 
 -- a line that says x was handed out
 pub record HandsOut (x : Line) (before after : LineReader) : Type 0 where

@@ -1,5 +1,5 @@
 // Lines as parts of the bytes that hold them.
-ghost use Rattle.std.specs.Prelude.{◌≡◌, ◌+◌, ◌^◌, ◌<◌, length, Some, None, MatchOption, ◌==◌};
+ghost use Rattle.std.specs.Prelude.{◌≡◌, ◌+◌, ◌^◌, ◌<◌, ◌≤◌, length, Some, None, MatchOption, ◌==◌};
 ghost use Rattle.lines.specs.Cuts.{cut_at};
 
 use crate::cuts::cut;
@@ -9,11 +9,15 @@ const LINE_END: u8 = b'\n';
 // Hands out the lines of a file, from the first on.
 #[derive(Clone, Copy)]
 pub struct LineReader<'a> {
-    // the bytes behind the lines that were handed out
-    rest: &'a [u8],
+    // the bytes of the whole file
+    bytes: &'a [u8],
+    // where the next line begins
+    at: usize,
     // how many lines were handed out
     count: usize,
-    ghost small: { count + length rest.now < 2 ^ 64 },
+    ghost few: { count ≤ at },
+    ghost inside: { at ≤ length bytes.now },
+    ghost small: { length bytes.now < 2 ^ 64 },
 }
 
 impl<'a> LineReader<'a> {
@@ -25,7 +29,8 @@ impl<'a> LineReader<'a> {
         ensures count { result.count ≡ 0 }
     {
         LineReader {
-            rest: bytes,
+            bytes,
+            at: 0,
             count: 0,
         }
     }
@@ -41,17 +46,18 @@ impl<'a> LineReader<'a> {
     pub fn is_done(&self) -> bool
         ensures { result ≡ (length (left self.now) == 0) }
     {
-        self.rest.is_empty()
+        self.at == self.bytes.len()
     }
 
     // The next line, without the byte 10 that ends it; none where no such byte is left.
     pub fn next_line(&mut self) -> Option<&'a [u8]>
         ensures line { MatchOption result (cut_at 10 (left self.old) ≡ None) (λ l. cut_at 10 (left self.old) ≡ Some (l.now, left self.new)) }
         ensures count { MatchOption result (self.new ≡ self.old) (λ _. self.new.count ≡ self.old.count + 1) }
-        ensures place { MatchOption result (self.new ≡ self.old) (λ l. length (left self.old) ≡ length (left self.new) + (length l.now + 1)) }
+        ensures place { MatchOption result (self.new ≡ self.old) (λ l. self.new.at ≡ self.old.at + (length l.now + 1)) }
     {
-        let (line, rest) = cut(self.rest, LINE_END)?;
-        self.rest = rest;
+        let bytes = self.bytes;
+        let (line, _) = cut(&bytes[self.at..], LINE_END)?;
+        self.at += line.len() + 1;
         self.count += 1;
         Some(line)
     }

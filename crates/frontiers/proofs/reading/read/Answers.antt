@@ -2,6 +2,7 @@ use Rattle.std.proofs.Common.{[], sym, ◌∙◌, subst, arith}
 use Rattle.std.proofs.lemmas.Result.{err_from_is_err_and}
 use Rattle.lines.specs.Ahead.{left}
 use Rattle.lines.specs.Cuts.{split_from}
+use Rattle.lines.proofs.Cutting.{cut_shorter}
 use Rattle.frontiers.specs.Reading.{told, Faulty}
 use Rattle.frontiers.proofs.Lines.{line_read, line_faulty, lines_done, something_left}
 use Rattle.frontiers.proofs.reading.read.Goals as goal
@@ -25,3 +26,6 @@ returns-then-not-is_done c =
     let l = told c.loop-line.input in
     let rest = left c.loop-line.lines in
     c.loop-line.invariant.0 ∙ lines_done l rest c.in_default.ensures.line ∙ something_left l rest (rw c.in_default.ensures.count at (sym c.if-not-is_done.ensures))
+
+pub loop-line-smaller : goal.loop-line-smaller
+loop-line-smaller c = cut_shorter (left c.loop-line.lines) (c.in-Some.line.now, left c.next_line.new.self) c.in-Some.ensures.line
