@@ -11,7 +11,7 @@ ghost use Rattle.capture.specs.Statements.{lowered};
 ghost use Rattle.capture.specs.Views.{change_of};
 
 use crate::COUNTS_SIZE;
-use frontier::{is_beyond, update};
+use frontier::{is_beyond, steps};
 use lattice::{PartialOrder, Same, Timestamp, same_time};
 use questions::Refusal;
 
@@ -26,12 +26,7 @@ fn is_alike<D: Same, T: Timestamp, R: Same>(one: &(D, T, R), other: &(D, T, R)) 
 fn is_held<D: Same, T: Timestamp, R: Same>(list: &[(D, T, R)], change: &(D, T, R)) -> bool
     ensures { result ≡ has (kinds D.Same.alike T.PartialOrder.below T.Lattice.joined T.Timestamp.start R.Same.alike) (map (change_of D.Same.value T.PartialOrder.value R.Same.value) list.now) (change_of D.Same.value T.PartialOrder.value R.Same.value change.now) }
 {
-    for e in list {
-        if is_alike(e, change) {
-            return true;
-        }
-    }
-    false
+    list.iter().any(|e| is_alike(e, change))
 }
 
 // Lowers the count of each change's time by 1, in a table of counts of which the first `len` are in
@@ -46,14 +41,7 @@ pub fn lower_counts<D: Same, T: PartialOrder + Copy, R: Same>(
         (λ n. Holds (counted T.PartialOrder.value) n table.new (added_all T.PartialOrder.below (in_use (counted T.PartialOrder.value) len table.old) (lowered (map (change_of D.Same.value T.PartialOrder.value R.Same.value) changes.now))))
         (Unit {0}) }
 {
-    if len > COUNTS_SIZE || table.len() < COUNTS_SIZE {
-        return Err(Refusal::ShortTable);
-    }
-    let mut n = len;
-    for c in changes {
-        n = update(table, n, COUNTS_SIZE, c.1, -1)?;
-    }
-    Ok(n)
+    steps::update_all(table, len, COUNTS_SIZE, changes.iter().map(|c| (c.1, -1)))
 }
 
 // Whether a change is beyond the frontier, and the same as none that is held or new.

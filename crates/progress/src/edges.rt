@@ -8,7 +8,7 @@ ghost use Rattle.frontier.specs.Tables.{in_use, Holds, frontier_asks, frontier_s
 ghost use Rattle.capture.specs.Messages.{those_beyond};
 ghost use Rattle.capture.specs.Views.{change_of};
 
-use frontier::{FRONTIER_SIZE, insert, is_beyond, steps};
+use frontier::{FRONTIER_SIZE, entries, is_beyond, steps};
 use lattice::{PartialOrder, Same};
 use questions::Refusal;
 
@@ -24,16 +24,8 @@ fn extend_by_missing<T: PartialOrder + Copy>(
         (λ n. Holds T.value n table.new (inserted_all T.below (in_use T.value len table.old) (positives (map (counted T.value) counts.now))))
         (Unit {0}) }
 {
-    if len > FRONTIER_SIZE || table.len() < FRONTIER_SIZE {
-        return Err(Refusal::ShortTable);
-    }
-    let mut n = len;
-    for c in counts {
-        if c.1 > 0 {
-            n = insert(table, n, c.0)?;
-        }
-    }
-    Ok(n)
+    let missing = counts.iter().filter(|c| c.1 > 0).map(|c| c.0);
+    steps::insert_all(table, len, missing)
 }
 
 // Makes the lower edge of a progress frontier and counts in a table, and tells how many times it has.
@@ -52,7 +44,7 @@ pub fn lower_edge<T: PartialOrder + Copy>(
     if len > FRONTIER_SIZE || edge.len() < FRONTIER_SIZE {
         return Err(Refusal::ShortTable);
     }
-    steps::copy_entries(frontier, edge, len);
+    entries::copy_entries(frontier, edge, len);
     extend_by_missing(edge, len, counts)
 }
 
@@ -67,13 +59,5 @@ pub fn keep_beyond<D: Same + Copy, T: PartialOrder + Copy, R: Same + Copy>(
     ensures within { result ≤ len }
     ensures after { Holds (change_of D.Same.value T.PartialOrder.value R.Same.value) result changes.new (those_beyond T.PartialOrder.below (map T.PartialOrder.value frontier.now) (in_use (change_of D.Same.value T.PartialOrder.value R.Same.value) len changes.old)) }
 {
-    let mut k = 0usize;
-    for i in 0..len {
-        let c = changes[i];
-        if is_beyond(frontier, &c.1) {
-            changes[k] = c;
-            k += 1;
-        }
-    }
-    k
+    entries::retain(changes, len, |c| is_beyond(frontier, &c.1))
 }

@@ -18,7 +18,7 @@ ghost use Rattle.progress.specs.Tables.{time_of, progress_of, progress_sized, Ho
 
 use crate::{COUNTS_SIZE, WAITING_SIZE};
 use capture::{Progress, StoredProgress};
-use frontier::{FRONTIER_SIZE, antichain_less_equal, is_beyond, steps, update};
+use frontier::{FRONTIER_SIZE, antichain_less_equal, entries, is_beyond, steps};
 use lattice::{PartialOrder, Timestamp, same_time};
 use questions::Refusal;
 
@@ -40,12 +40,7 @@ pub const LARGEST_COUNT: u32 = capture::LARGEST_COUNT;
 pub fn is_small<T: PartialOrder>(counts: &[(T, u32)]) -> bool
     ensures { result ≡ small (map (count_of T.value) counts.now) }
 {
-    for c in counts {
-        if c.1 > LARGEST_COUNT {
-            return false;
-        }
-    }
-    true
+    counts.iter().all(|c| c.1 <= LARGEST_COUNT)
 }
 
 // Whether a time is beyond the lower list and behind the upper one.
@@ -59,24 +54,14 @@ fn is_between<T: PartialOrder>(lower: &[T], upper: &[T], time: &T) -> bool
 pub fn is_inside<T: PartialOrder>(lower: &[T], upper: &[T], counts: &[(T, u32)]) -> bool
     ensures { result ≡ inside T.below (map T.value lower.now) (map T.value upper.now) (map (count_of T.value) counts.now) }
 {
-    for c in counts {
-        if !is_between(lower, upper, &c.0) {
-            return false;
-        }
-    }
-    true
+    counts.iter().all(|c| is_between(lower, upper, &c.0))
 }
 
 // Whether none of the counts is of the time.
 fn is_uncounted<T: PartialOrder>(counts: &[(T, u32)], time: &T) -> bool
     ensures { result ≡ list_all (λ c. not (at_once T.below (T.value time.now) c.0)) (map (count_of T.value) counts.now) }
 {
-    for c in counts {
-        if same_time(time, &c.0) {
-            return false;
-        }
-    }
-    true
+    counts.iter().all(|c| !same_time(time, &c.0))
 }
 
 // Whether no time is counted twice, as question 7 asks.
@@ -104,16 +89,9 @@ pub fn add_counts<T: PartialOrder + Copy>(
         (λ n. Holds (counted T.value) n table.new (added_all T.below (in_use (counted T.value) len table.old) (counts_beyond T.below (map T.value frontier.now) (map (count_of T.value) counts.now))))
         (Unit {0}) }
 {
-    if len > COUNTS_SIZE || table.len() < COUNTS_SIZE {
-        return Err(Refusal::ShortTable);
-    }
-    let mut n = len;
-    for c in counts {
-        if is_beyond(frontier, &c.0) {
-            n = update(table, n, COUNTS_SIZE, c.0, c.1 as i64)?;
-        }
-    }
-    Ok(n)
+    let beyond = counts.iter().filter(|c| is_beyond(frontier, &c.0));
+    let amounts = beyond.map(|c| (c.0, i64::from(c.1)));
+    steps::update_all(table, len, COUNTS_SIZE, amounts)
 }
 
 // Whether a waiting statement can act: its lower list is at or before the progress frontier.
@@ -137,12 +115,14 @@ pub(crate) fn first_ready<T: PartialOrder + Copy>(
 ) -> usize
     ensures { result ≡ prefix_len (λ s. not (ready T.below (map T.value frontier.now) s)) (map (stored_statement T.value) waiting.now) }
 {
-    for (i, e) in waiting.iter().enumerate() {
-        if is_ready(e, frontier) {
-            return i;
-        }
-    }
-    waiting.len()
+    waiting
+        .iter()
+        .position(
+            |e|
+                ensures { result ≡ ready T.below (map T.value frontier.entry.now) (stored_statement T.value e.now) }
+            { is_ready(e, frontier) },
+        )
+        .unwrap_or(waiting.len())
 }
 
 // Keeps those of the first `len` statements that are not passed, in their order, and tells how many
@@ -156,16 +136,13 @@ pub(crate) fn drop_passed<T: PartialOrder + Copy>(
     ensures within { result ≤ len }
     ensures after { Holds (stored_statement T.value) result waiting.new (not_passed T.below (map T.value frontier.now) (in_use (stored_statement T.value) len waiting.old)) }
 {
-    let mut k = 0usize;
-    for i in 0..len {
-        if !is_passed(&waiting[i], frontier) {
-            if k < i {
-                waiting[k] = waiting[i];
-            }
-            k += 1;
-        }
-    }
-    k
+    entries::retain(
+        waiting,
+        len,
+        |e|
+            ensures { result ≡ not (passed T.below (map T.value frontier.entry.now) (stored_statement T.value e.now)) }
+        { !is_passed(e, frontier) },
+    )
 }
 
 // A statement waits: it is stored after the others.

@@ -1,40 +1,12 @@
-use Rattle.std.proofs.Common.{◌+◌, ◌≤◌, map, length, drop, negsuc, arith}
-use Rattle.std.proofs.lemmas.Result.{err_from_is_err_and}
-use Rattle.questions.specs.Questions.{number_of}
+use Rattle.std.proofs.Common.{negsuc, rules, tests}
+use Rattle.std.proofs.lemmas.Iterator.{YieldsList-from_slice, YieldsList-from_map_by}
+use Rattle.std.proofs.lemmas.Iterator.Consumers.{YieldsList-at}
 use Rattle.frontier.specs.Tables.{counted}
-use Rattle.frontier.proofs.Filling.{goes_on_one, stops_one, filled, adding}
-use Rattle.frontier.proofs.Walks.{next, walked}
-use Rattle.capture.specs.Sizes.{reader_counts}
-use Rattle.capture.specs.Statements.{lowered}
-use Rattle.capture.specs.Views.{change_of}
+use Rattle.progress.proofs.Counts.{lowered_read}
 use Rattle.progress.proofs.changes.lower_counts.Goals as goal
-
-pub returns-in_err-n : goal.returns-in_err-n
-returns-in_err-n g c =
-    let o = g.T.PartialOrder in
-    let reads = change_of g.D.Same.value o.value g.R.Same.value in
-    let told = c.in_err-n.ensures in
-    let x = c.c-item.result in
-    let long : reader_counts ≤ length c.loop-c.table = omega arith in
-    let turn = next reads c.args.changes.now c.loop-c.c-index x c.loop-c-test.true c.c-item.is lowered in
-    let end = stops_one (adding o.below reader_counts) (counted o.value) _ _ c.loop-c.n c.loop-c.table c.loop-c.invariant.0 long _ (o.value x.1, negsuc 0) (lowered (map reads (drop (c.loop-c.c-index + 1) c.args.changes.now))) turn c.loop-c.invariant.1 (number_of c.in_err-n.field-0.0) told.answer.0 (length c.args.table.now) c.args.len c.if-len-gt-COUNTS_SIZE.false c.if-table-lt-COUNTS_SIZE.false in
-    let p = err_from_is_err_and c.from_residual.result c.from_residual.ensures.1 in
-    rw (p.1, p.2) (end, tt)
-
-pub loop-c-preserved : goal.loop-c-preserved
-loop-c-preserved g c =
-    let o = g.T.PartialOrder in
-    let reads = change_of g.D.Same.value o.value g.R.Same.value in
-    let told = c.in_ok-n.ensures in
-    let x = c.c-item.result in
-    let long : reader_counts ≤ length c.loop-c.table = omega arith in
-    let turn = next reads c.args.changes.now c.loop-c.c-index x c.loop-c-test.true c.c-item.is lowered in
-    goes_on_one (adding o.below reader_counts) (counted o.value) _ _ c.loop-c.n c.loop-c.table c.loop-c.invariant.0 long _ (o.value x.1, negsuc 0) (lowered (map reads (drop (c.loop-c.c-index + 1) c.args.changes.now))) turn c.loop-c.invariant.1 c.in_ok-n.n c.update.new.table told.answer.0 told.answer.1
 
 pub returns : goal.returns
 returns g c =
     let o = g.T.PartialOrder in
-    let reads = change_of g.D.Same.value o.value g.R.Same.value in
-    let long : c.loop-c.n ≤ length c.loop-c.table = omega arith in
-    let none = walked reads c.args.changes.now c.loop-c.c-index lowered c.loop-c-test.false in
-    filled (adding o.below reader_counts) (counted o.value) _ _ _ c.loop-c.n c.loop-c.table long none c.loop-c.invariant.1 _ _ c.if-len-gt-COUNTS_SIZE.false c.if-table-lt-COUNTS_SIZE.false
+    let xs = c.args.changes.now in
+    rw (← lowered_read g.D.Same.value o.value g.R.Same.value xs) (c.update_all.ensures.answer _ (YieldsList-from_map_by _ (counted o.value) (λ e. (o.value e.1, negsuc 0)) (YieldsList-at c.map.ensures.source (YieldsList-from_slice xs cc)) c.map.ensures.closure (λ x r q k. search (rules, tests))).runs)

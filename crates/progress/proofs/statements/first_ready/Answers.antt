@@ -1,20 +1,18 @@
-use Rattle.std.proofs.Common.{not, map, sym, ap, ◌∙◌, arith}
-use Rattle.frontier.proofs.Adding.{leading_on, leading_here, leading_end}
+use Rattle.std.proofs.Common.{length, map, not, ap, ◌∙◌, rules, tests}
+use Rattle.std.proofs.lemmas.Iterator.{YieldsList-from_slice}
+use Rattle.std.proofs.lemmas.Iterator.Search.{position_from_yields_List}
+use Rattle.std.specs.Option.{unwrap_or}
+use Rattle.frontier.proofs.Tests.{place_of, prefix_reads}
 use Rattle.capture.specs.Statements.{ready}
 use Rattle.capture.specs.Stored.{stored_statement}
 use Rattle.progress.proofs.statements.first_ready.Goals as goal
 
-pub returns-then-is_ready : goal.returns-then-is_ready
-returns-then-is_ready g c =
-    let o = g.T.PartialOrder in
-    leading_here (λ s. not (ready o.below (map o.value c.args.frontier.now) s)) (stored_statement o.value) c.args.waiting.now c.loop-i.i c.loop-i.invariant c.index-waiting-i.result c.loop-i-test.true c.index-waiting-i.is (ap not (sym c.is_ready.ensures ∙ c.if-is_ready.true))
-
-pub loop-i-preserved : goal.loop-i-preserved
-loop-i-preserved g c =
-    let o = g.T.PartialOrder in
-    leading_on (λ s. not (ready o.below (map o.value c.args.frontier.now) s)) (stored_statement o.value) c.args.waiting.now c.loop-i.i c.loop-i.invariant c.index-waiting-i.result c.loop-i-test.true c.index-waiting-i.is (ap not (sym c.is_ready.ensures ∙ c.if-is_ready.false))
-
 pub returns : goal.returns
 returns g c =
     let o = g.T.PartialOrder in
-    leading_end (λ s. not (ready o.below (map o.value c.args.frontier.now) s)) (stored_statement o.value) c.args.waiting.now c.loop-i.i c.loop-i.invariant c.loop-i-test.false (omega arith)
+    let f = map o.value c.args.frontier.now in
+    let xs = c.args.waiting.now in
+    c.unwrap_or.ensures
+    ∙ ap (λ r. unwrap_or r (length xs)) (position_from_yields_List (λ e. ready o.below f (stored_statement o.value e)) _ _ c.position.result c.position.ensures.ran (YieldsList-from_slice xs cc) (λ x b q k. search (rules, tests)))
+    ∙ place_of (λ e. ready o.below f (stored_statement o.value e)) xs
+    ∙ prefix_reads (stored_statement o.value) (λ s. not (ready o.below f s)) xs
