@@ -1,6 +1,7 @@
 // The sender, open and finished: how much of each of its tables is in use.
 //
-// The tables themselves are handed to each call: a frontier, counts, and two queues of messages.
+// The tables themselves are handed to each call: a frontier, counts, and two queues of messages.  They
+// stand side by side in each call, since a struct of them would ask for writing what a call only reads.
 ghost use Rattle.std.specs.Prelude.{◌≡◌, ◌≤◌, length};
 ghost use Rattle.std.specs.Bool.{OnTrue};
 ghost use Rattle.frontier.specs.Tables.{frontier_size};

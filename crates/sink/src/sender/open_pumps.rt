@@ -1,4 +1,5 @@
-// Pumping an open sender's queues into its posts.
+// Pumping an open sender's queues into its posts: each call hands on to its queue, as those of a
+// finished sender do, which is a type of its own.
 ghost use Rattle.std.specs.Prelude.{◌≡◌};
 ghost use Rattle.capture.specs.Posts.{post as post_of};
 ghost use Rattle.sink.specs.Pumps.{QueuePumped, WhereRefused};
