@@ -4,7 +4,7 @@ ghost use Rattle.questions.specs.Answers.{Answered};
 ghost use Rattle.frontier.specs.Frontiers.{beyond};
 ghost use Rattle.frontier.specs.Counts.{added_all, room};
 ghost use Rattle.frontier.specs.Tables.{in_use, Holds, table_asks, counted};
-ghost use Rattle.capture.specs.Kinds.{kinds};
+ghost use Rattle.capture.specs.Kinds.{kinds_by};
 ghost use Rattle.capture.specs.Messages.{alike as alike_changes, has, fresh};
 ghost use Rattle.capture.specs.Sizes.{reader_counts};
 ghost use Rattle.capture.specs.Statements.{lowered};
@@ -17,14 +17,14 @@ use questions::Refusal;
 
 // Whether two changes are the same, in data, time and amount.
 fn is_alike<D: Same, T: Timestamp, R: Same>(one: &(D, T, R), other: &(D, T, R)) -> bool
-    ensures { result ≡ alike_changes (kinds D.Same.alike T.PartialOrder.below T.Lattice.joined T.Timestamp.start R.Same.alike) (change_of D.Same.value T.PartialOrder.value R.Same.value one.now) (change_of D.Same.value T.PartialOrder.value R.Same.value other.now) }
+    ensures { result ≡ alike_changes (kinds_by D.Same T.Timestamp R.Same) (change_of D.Same.value T.PartialOrder.value R.Same.value one.now) (change_of D.Same.value T.PartialOrder.value R.Same.value other.now) }
 {
     one.0.same(&other.0) && same_time(&one.1, &other.1) && one.2.same(&other.2)
 }
 
 // Whether the change stands in the list.
 fn is_held<D: Same, T: Timestamp, R: Same>(list: &[(D, T, R)], change: &(D, T, R)) -> bool
-    ensures { result ≡ has (kinds D.Same.alike T.PartialOrder.below T.Lattice.joined T.Timestamp.start R.Same.alike) (map (change_of D.Same.value T.PartialOrder.value R.Same.value) list.now) (change_of D.Same.value T.PartialOrder.value R.Same.value change.now) }
+    ensures { result ≡ has (kinds_by D.Same T.Timestamp R.Same) (map (change_of D.Same.value T.PartialOrder.value R.Same.value) list.now) (change_of D.Same.value T.PartialOrder.value R.Same.value change.now) }
 {
     list.iter().any(|e| is_alike(e, change))
 }
@@ -51,7 +51,7 @@ fn is_fresh<D: Same, T: Timestamp, R: Same>(
     held: &[(D, T, R)],
     new: &[(D, T, R)],
 ) -> bool
-    ensures { result ≡ (beyond T.PartialOrder.below (map T.PartialOrder.value frontier.now) (change_of D.Same.value T.PartialOrder.value R.Same.value change.now).time && not (has (kinds D.Same.alike T.PartialOrder.below T.Lattice.joined T.Timestamp.start R.Same.alike) (map (change_of D.Same.value T.PartialOrder.value R.Same.value) held.now ++ map (change_of D.Same.value T.PartialOrder.value R.Same.value) new.now) (change_of D.Same.value T.PartialOrder.value R.Same.value change.now))) }
+    ensures { result ≡ (beyond T.PartialOrder.below (map T.PartialOrder.value frontier.now) (change_of D.Same.value T.PartialOrder.value R.Same.value change.now).time && not (has (kinds_by D.Same T.Timestamp R.Same) (map (change_of D.Same.value T.PartialOrder.value R.Same.value) held.now ++ map (change_of D.Same.value T.PartialOrder.value R.Same.value) new.now) (change_of D.Same.value T.PartialOrder.value R.Same.value change.now))) }
 {
     if is_held(held, change) {
         return false;
@@ -72,7 +72,7 @@ pub fn take_fresh<D: Same + Copy, T: Timestamp + Copy, R: Same + Copy>(
 ) -> usize
     requires { length changes.now ≤ length table.old }
     ensures within { result ≤ length changes.now }
-    ensures after { in_use (change_of D.Same.value T.PartialOrder.value R.Same.value) result table.new ≡ fresh (kinds D.Same.alike T.PartialOrder.below T.Lattice.joined T.Timestamp.start R.Same.alike) (map T.PartialOrder.value frontier.now) (map (change_of D.Same.value T.PartialOrder.value R.Same.value) held.now) (map (change_of D.Same.value T.PartialOrder.value R.Same.value) changes.now) }
+    ensures after { in_use (change_of D.Same.value T.PartialOrder.value R.Same.value) result table.new ≡ fresh (kinds_by D.Same T.Timestamp R.Same) (map T.PartialOrder.value frontier.now) (map (change_of D.Same.value T.PartialOrder.value R.Same.value) held.now) (map (change_of D.Same.value T.PartialOrder.value R.Same.value) changes.now) }
 {
     let mut n = 0usize;
     for c in changes {

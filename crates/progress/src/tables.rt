@@ -5,10 +5,11 @@
 ghost use Rattle.std.specs.Prelude.{◌≡◌, ◌≤◌, true, ◌∷◌, length, take};
 ghost use Rattle.questions.specs.Answers.{Answered};
 ghost use Rattle.frontier.specs.Tables.{sized, frontier_size};
+ghost use Rattle.capture.specs.Kinds.{time_by};
 ghost use Rattle.capture.specs.Messages.{short_statement};
 ghost use Rattle.capture.specs.Statements.{act as acted, act_asks, drained, drain_asks, advanced, statement_asks};
 ghost use Rattle.capture.specs.Views.{statement_of};
-ghost use Rattle.progress.specs.Tables.{time_of, turns_asks, course_asks, ProgressSized};
+ghost use Rattle.progress.specs.Tables.{turns_asks, course_asks, ProgressSized};
 
 use crate::statements::{add_counts, check, drop_passed, first_ready, wait};
 use crate::{Lengths, are_sized, is_sized};
@@ -82,8 +83,8 @@ impl<T: Timestamp + Copy> ProgressTables<'_, T, StoredProgress<T>> {
     // list is joined to the frontier, and the statements that this passes no longer wait.
     fn act(&mut self, statement: Progress<'_, T>, spare: &mut Spare<'_, T>) -> Result<(), Refusal>
         ensures answer { Answered result
-            (act_asks (time_of T.PartialOrder.below T.Lattice.joined T.Timestamp.start) (statement_of T.PartialOrder.value statement.entry) (progress_in T.PartialOrder.value self.old))
-            (λ _. progress_in T.PartialOrder.value self.new ≡ acted (time_of T.PartialOrder.below T.Lattice.joined T.Timestamp.start) (statement_of T.PartialOrder.value statement.entry) (progress_in T.PartialOrder.value self.old))
+            (act_asks (time_by T.Timestamp) (statement_of T.PartialOrder.value statement.entry) (progress_in T.PartialOrder.value self.old))
+            (λ _. progress_in T.PartialOrder.value self.new ≡ acted (time_by T.Timestamp) (statement_of T.PartialOrder.value statement.entry) (progress_in T.PartialOrder.value self.old))
             (Unit {0}) }
         ensures tables { SameTables self.old self.new }
     {
@@ -111,8 +112,8 @@ impl<T: Timestamp + Copy> ProgressTables<'_, T, StoredProgress<T>> {
     // Waiting statements act, the first that can each time, until none can or as many turns are over.
     fn drain(&mut self, turns: usize, spare: &mut Spare<'_, T>) -> Result<(), Refusal>
         ensures answer { Answered result
-            (drain_asks (time_of T.PartialOrder.below T.Lattice.joined T.Timestamp.start) turns (progress_in T.PartialOrder.value self.old))
-            (λ _. progress_in T.PartialOrder.value self.new ≡ drained (time_of T.PartialOrder.below T.Lattice.joined T.Timestamp.start) turns (progress_in T.PartialOrder.value self.old))
+            (drain_asks (time_by T.Timestamp) turns (progress_in T.PartialOrder.value self.old))
+            (λ _. progress_in T.PartialOrder.value self.new ≡ drained (time_by T.Timestamp) turns (progress_in T.PartialOrder.value self.old))
             (Unit {0}) }
         ensures tables { SameTables self.old self.new }
     {
@@ -134,8 +135,8 @@ impl<T: Timestamp + Copy> ProgressTables<'_, T, StoredProgress<T>> {
         spare: &mut Spare<'_, T>,
     ) -> Result<(), Refusal>
         ensures answer { Answered result
-            (turns_asks (time_of T.PartialOrder.below T.Lattice.joined T.Timestamp.start) self.old.lengths.waiting (statement_of T.PartialOrder.value statement.entry) (progress_in T.PartialOrder.value self.old))
-            (λ _. progress_in T.PartialOrder.value self.new ≡ drained (time_of T.PartialOrder.below T.Lattice.joined T.Timestamp.start) self.old.lengths.waiting (acted (time_of T.PartialOrder.below T.Lattice.joined T.Timestamp.start) (statement_of T.PartialOrder.value statement.entry) (progress_in T.PartialOrder.value self.old)))
+            (turns_asks (time_by T.Timestamp) self.old.lengths.waiting (statement_of T.PartialOrder.value statement.entry) (progress_in T.PartialOrder.value self.old))
+            (λ _. progress_in T.PartialOrder.value self.new ≡ drained (time_by T.Timestamp) self.old.lengths.waiting (acted (time_by T.Timestamp) (statement_of T.PartialOrder.value statement.entry) (progress_in T.PartialOrder.value self.old)))
             (Unit {0}) }
         ensures tables { SameTables self.old self.new }
     {
@@ -152,8 +153,8 @@ impl<T: Timestamp + Copy> ProgressTables<'_, T, StoredProgress<T>> {
     ) -> Result<(), Refusal>
         requires { short_statement (statement_of T.PartialOrder.value statement) ≡ true }
         ensures answer { Answered result
-            (course_asks (time_of T.PartialOrder.below T.Lattice.joined T.Timestamp.start) (statement_of T.PartialOrder.value statement.entry) (progress_in T.PartialOrder.value self.old))
-            (λ _. progress_in T.PartialOrder.value self.new ≡ advanced (time_of T.PartialOrder.below T.Lattice.joined T.Timestamp.start) (statement_of T.PartialOrder.value statement.entry) (progress_in T.PartialOrder.value self.old))
+            (course_asks (time_by T.Timestamp) (statement_of T.PartialOrder.value statement.entry) (progress_in T.PartialOrder.value self.old))
+            (λ _. progress_in T.PartialOrder.value self.new ≡ advanced (time_by T.Timestamp) (statement_of T.PartialOrder.value statement.entry) (progress_in T.PartialOrder.value self.old))
             (Unit {0}) }
         ensures tables { SameTables self.old self.new }
     {
@@ -171,8 +172,8 @@ impl<T: Timestamp + Copy> ProgressTables<'_, T, StoredProgress<T>> {
     // lets others act, or waits.
     pub fn advance(&mut self, statement: Progress<'_, T>, scratch: &mut [T]) -> Result<(), Refusal>
         ensures answer { Answered result
-            ((sized frontier_size 0 (length scratch.old), 1) ∷ statement_asks (time_of T.PartialOrder.below T.Lattice.joined T.Timestamp.start) (statement_of T.PartialOrder.value statement.entry) (progress_in T.PartialOrder.value self.old))
-            (λ _. progress_in T.PartialOrder.value self.new ≡ advanced (time_of T.PartialOrder.below T.Lattice.joined T.Timestamp.start) (statement_of T.PartialOrder.value statement.entry) (progress_in T.PartialOrder.value self.old))
+            ((sized frontier_size 0 (length scratch.old), 1) ∷ statement_asks (time_by T.Timestamp) (statement_of T.PartialOrder.value statement.entry) (progress_in T.PartialOrder.value self.old))
+            (λ _. progress_in T.PartialOrder.value self.new ≡ advanced (time_by T.Timestamp) (statement_of T.PartialOrder.value statement.entry) (progress_in T.PartialOrder.value self.old))
             (Unit {0}) }
         ensures tables { SameTables self.old self.new }
     {

@@ -1,6 +1,6 @@
 // What a message's changes would make of a reader, found out in scratch tables.
 ghost use Rattle.std.specs.Prelude.{◌≤◌, length};
-ghost use Rattle.capture.specs.Kinds.{kinds};
+ghost use Rattle.capture.specs.Kinds.{kinds_by};
 ghost use Rattle.capture.specs.Sizes.{reader_changes, reader_counts};
 ghost use Rattle.capture.specs.Views.{change_of};
 ghost use Rattle.progress.specs.Weighing.{FreshWeighed};
@@ -30,7 +30,7 @@ pub fn weigh_fresh<D: Same + Copy, T: Timestamp + Copy, R: Same + Copy>(
     sums: &mut [(T, i64)],
 ) -> Result<Weighed, Refusal>
     requires { (length changes.now ≤ length new.old) × (length kept.now ≤ reader_changes) × (length counts.now ≤ reader_counts) × (reader_counts ≤ length sums.old) }
-    ensures { FreshWeighed (kinds D.Same.alike T.PartialOrder.below T.Lattice.joined T.Timestamp.start R.Same.alike) T.PartialOrder.value (change_of D.Same.value T.PartialOrder.value R.Same.value) result changes.now frontier.now kept.now counts.now new.new sums.new }
+    ensures { FreshWeighed (kinds_by D.Same T.Timestamp R.Same) T.PartialOrder.value (change_of D.Same.value T.PartialOrder.value R.Same.value) result changes.now frontier.now kept.now counts.now new.new sums.new }
 {
     let n = take_fresh(new, changes, frontier, kept);
     let room = CHANGES_SIZE - kept.len();

@@ -1,6 +1,6 @@
 // Closing a round.
 ghost use Rattle.std.specs.Prelude.{◌≡◌, map, length};
-ghost use Rattle.capture.specs.Kinds.{kinds};
+ghost use Rattle.capture.specs.Kinds.{kinds_by};
 ghost use Rattle.sink.specs.Senders.{sender_of, close_tables, Closed};
 
 use super::{OpenSender, are_sized};
@@ -23,7 +23,7 @@ impl OpenSender {
         announced: &mut [(T, u32)],
         list: &[T],
     ) -> Result<(), Refusal>
-        ensures { Closed (kinds D.Same.alike T.PartialOrder.below T.Lattice.joined T.Timestamp.start R.Same.alike)
+        ensures { Closed (kinds_by D.Same T.Timestamp R.Same)
             (close_tables (length frontier.old) (length counts.old) (length queue.old) (length upper.old) (length announced.old))
             (λ t. sender_of D.Same.value T.PartialOrder.value R.Same.value self.old frontier.old counts.old t queue.old)
             result (map T.PartialOrder.value list.now)

@@ -1,7 +1,7 @@
 // Finishing.
 ghost use Rattle.std.specs.Prelude.{◌≡◌, [], ◌∷◌, ◌++◌, length};
 ghost use Rattle.questions.specs.Answers.{Answered};
-ghost use Rattle.capture.specs.Kinds.{kinds};
+ghost use Rattle.capture.specs.Kinds.{kinds_by};
 ghost use Rattle.capture.specs.Messages.{statement};
 ghost use Rattle.capture.specs.Sender.{finish_asks, stating};
 ghost use Rattle.capture.specs.Stored.{queued};
@@ -23,9 +23,9 @@ impl OpenSender {
         announced: &mut [(T, u32)],
     ) -> Result<(), Refusal>
         ensures answer { Answered result
-            (finish_asks (kinds D.Same.alike T.PartialOrder.below T.Lattice.joined T.Timestamp.start R.Same.alike) (finish_tables (length frontier.now) (length counts.now) (length queue.old) (length announced.old))
+            (finish_asks (kinds_by D.Same T.Timestamp R.Same) (finish_tables (length frontier.now) (length counts.now) (length queue.old) (length announced.old))
             (sender_of D.Same.value T.PartialOrder.value R.Same.value self.old frontier.now counts.now [] queue.old))
-            (λ _. queued D.Same.value T.PartialOrder.value R.Same.value self.new.progress.len queue.new ≡ queued D.Same.value T.PartialOrder.value R.Same.value self.old.progress.len queue.old ++ statement (stating (kinds D.Same.alike T.PartialOrder.below T.Lattice.joined T.Timestamp.start R.Same.alike) [] (sender_of D.Same.value T.PartialOrder.value R.Same.value self.old frontier.now counts.now [] queue.old)) ∷ [])
+            (λ _. queued D.Same.value T.PartialOrder.value R.Same.value self.new.progress.len queue.new ≡ queued D.Same.value T.PartialOrder.value R.Same.value self.old.progress.len queue.old ++ statement (stating (kinds_by D.Same T.Timestamp R.Same) [] (sender_of D.Same.value T.PartialOrder.value R.Same.value self.old frontier.now counts.now [] queue.old)) ∷ [])
             ((self.new ≡ self.old) × (queue.new ≡ queue.old)) }
         ensures others { self.new.updates ≡ self.old.updates }
     {
@@ -50,7 +50,7 @@ impl OpenSender {
         queue: &mut [StoredMessage<D, T, R>],
         announced: &mut [(T, u32)],
     ) -> Result<FinishedSender, (OpenSender, Refusal)>
-        ensures { Finished (kinds D.Same.alike T.PartialOrder.below T.Lattice.joined T.Timestamp.start R.Same.alike)
+        ensures { Finished (kinds_by D.Same T.Timestamp R.Same)
             (finish_tables (length frontier.now) (length counts.now) (length queue.old) (length announced.old))
             (λ t. sender_of D.Same.value T.PartialOrder.value R.Same.value self frontier.now counts.now t queue.old)
             result (λ f t. finished_of D.Same.value T.PartialOrder.value R.Same.value f t queue.new)

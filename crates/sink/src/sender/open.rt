@@ -1,7 +1,7 @@
 // Opening a sender.
 ghost use Rattle.std.specs.Prelude.{◌≡◌, [], ◌∷◌, length};
 ghost use Rattle.questions.specs.Answers.{Answered};
-ghost use Rattle.capture.specs.Kinds.{kinds};
+ghost use Rattle.capture.specs.Kinds.{kinds_by};
 ghost use Rattle.capture.specs.Sender.{fresh_sender};
 ghost use Rattle.sink.specs.Senders.{sender_of, open_tables};
 
@@ -22,7 +22,7 @@ impl OpenSender {
     ) -> Result<OpenSender, Refusal>
         ensures { Answered result
             ((open_tables (length frontier.old) (length counts.now) (length updates.now) (length progress.now), 1) ∷ [])
-            (λ s. sender_of D.Same.value T.PartialOrder.value R.Same.value s frontier.new counts.now updates.now progress.now ≡ fresh_sender (kinds D.Same.alike T.PartialOrder.below T.Lattice.joined T.Timestamp.start R.Same.alike))
+            (λ s. sender_of D.Same.value T.PartialOrder.value R.Same.value s frontier.new counts.now updates.now progress.now ≡ fresh_sender (kinds_by D.Same T.Timestamp R.Same))
             (frontier.new ≡ frontier.old) }
     {
         if !are_sized(frontier, counts, updates) || progress.len() < QUEUE_MESSAGES {

@@ -1,6 +1,6 @@
 // Recording changes.
 ghost use Rattle.std.specs.Prelude.{◌≡◌, map, length};
-ghost use Rattle.capture.specs.Kinds.{kinds};
+ghost use Rattle.capture.specs.Kinds.{kinds_by};
 ghost use Rattle.capture.specs.Views.{change_of};
 ghost use Rattle.sink.specs.Senders.{sender_of, record_tables, Recorded};
 
@@ -21,7 +21,7 @@ impl OpenSender {
         scratch: &mut [(T, i64)],
         changes: &[(D, T, R)],
     ) -> Result<(), Refusal>
-        ensures { Recorded (kinds D.Same.alike T.PartialOrder.below T.Lattice.joined T.Timestamp.start R.Same.alike)
+        ensures { Recorded (kinds_by D.Same T.Timestamp R.Same)
             (record_tables (length frontier.now) (length counts.old) (length queue.old) (length scratch.old))
             (λ t. sender_of D.Same.value T.PartialOrder.value R.Same.value self.old frontier.now counts.old queue.old t)
             result (map (change_of D.Same.value T.PartialOrder.value R.Same.value) changes.now)
