@@ -5,31 +5,12 @@ use borrow.Rule.Slice.PartMut.{put_mid, post_of}
 use Rattle.std.specs.List.{prefix_len, between}
 use Rattle.std.proofs.lemmas.List.Edits.{length-between}
 use Rattle.std.proofs.lemmas.Slice.{between_is, drop-put_mid}
-use Rattle.std.proofs.lemmas.List.{get_or-map, get_or-take, length-map, length-take, length-drop, length-append, length-take-le, length_push, take_all, take-take, take-map, take_at, take_more_set, drop_all, drop_more, drop-map, drop-drop, map-append, map_push, set_split, append-nil, append_assoc}
-use Rattle.std.proofs.lemmas.List.Sums.{prefix_len-drop_yes, prefix_len-drop_no, prefix_len-drop_all}
+use Rattle.std.proofs.lemmas.List.{get_or-map, get_or-take, length-take, length-drop, length-append, length-take-le, length_push, take_all, take-take, take-map, take_at, take_more_set, drop_all, drop_more, drop-map, drop-drop, map-append, map_push, set_split, append-nil, append_assoc}
 use Rattle.std.proofs.lemmas.Bool.{cond-true, cond-false, not-false}
 use Rattle.lattice.specs.Orders.{at_once}
 use Rattle.frontier.specs.Counts.{stopped, is_zero, entry, other, added}
 use Rattle.frontier.specs.Tables.{in_use, Holds, counted}
 use Rattle.frontier.proofs.Tables.{sub_zero, length_in_use}
-
--- the loop that looks for the place
-module _ {X A : Type 0} (p : A → Bool) (f : X → A) (xs : List X) (i : ℕ) (so_far : prefix_len p (map f xs) ≡ i + prefix_len p (drop i (map f xs))) where
-  module _ (x : X) (h : i < length xs) (read : x ≡ get_or xs i x) where
-    within : i < length (map f xs)
-    within = omega (arith, length-map xs f)
-
-    here : (b : Bool) → p (f x) ≡ b → p (get_or (map f xs) i (f x)) ≡ b
-    here b e = ap p (get_or-map f xs i x (f x) h ∙ ap f (sym read)) ∙ e
-
-    pub leading_on : p (f x) ≡ true → prefix_len p (map f xs) ≡ (i + 1) + prefix_len p (drop (i + 1) (map f xs))
-    leading_on e = omega (arith, prefix_len-drop_yes p (map f xs) i (f x) within (here true e))
-
-    pub leading_here : p (f x) ≡ false → i ≡ prefix_len p (map f xs)
-    leading_here e = omega (arith, prefix_len-drop_no p (map f xs) i (f x) within (here false e))
-
-  pub leading_end : length xs ≤ i → i ≤ length xs → length xs ≡ prefix_len p (map f xs)
-  leading_end h k = omega (arith, prefix_len-drop_all p (map f xs) i (omega (arith, length-map xs f)))
 
 -- the place, found in a part of the table
 pub placed : {X A : Type 0} (p : A → Bool) (f : X → A) (xs : List X) (k len : ℕ) → k ≡ prefix_len p (map f (take (len - 0) xs)) → k ≡ prefix_len p (in_use f len xs)

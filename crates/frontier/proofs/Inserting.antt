@@ -1,10 +1,9 @@
 -- What stays of a table under an insertion, and what it reads as.
-use Rattle.std.proofs.Common.{◌≡◌, ℕ, ◌+◌, ◌<◌, ◌≤◌, Bool, true, false, cond, not, List, [], ◌∷◌, ◌++◌, map, length, take, drop, set, filter, sym, refl, ap, ◌∙◌, arith}
-use Rattle.std.proofs.lemmas.List.{take_more_set, map_push, length_push, length-map, length-take-le}
-use Rattle.std.proofs.lemmas.List.Filters.{FiltersInPlace}
+use Rattle.std.proofs.Common.{◌≡◌, ℕ, ◌+◌, ◌<◌, Bool, true, false, cond, not, List, [], ◌∷◌, ◌++◌, map, length, take, set, filter, sym, refl, ap, ◌∙◌}
+use Rattle.std.proofs.lemmas.List.{take_more_set, map_push, length_push, length-map}
 use Rattle.std.proofs.lemmas.Bool.{cond-false}
 use Rattle.frontier.specs.Frontiers.{beyond, without, inserted}
-use Rattle.frontier.specs.Tables.{in_use, Holds}
+use Rattle.frontier.specs.Tables.{Holds}
 
 -- what passes a test, by what stored values read as
 module _ {X A : Type 0} (p : A → Bool) (value : X → A) where
@@ -15,14 +14,6 @@ module _ {X A : Type 0} (p : A → Bool) (value : X → A) where
   pub kept_map : (xs : List X) → map value (filter (λ x. p (value x)) xs) ≡ filter p (map value xs)
   kept_map [] = refl
   kept_map (x ∷ xs) = one_more (p (value x)) x (filter (λ y. p (value y)) xs) (filter p (map value xs)) (kept_map xs)
-
-  -- the loop that keeps is at its end
-  pub kept_all : (xs ys : List X) (k i len : ℕ) → i ≡ len → FiltersInPlace (λ x. p (value x)) xs ys k i → (k ≤ len) × Holds value k ys (filter p (in_use value len xs)) × (drop len ys ≡ drop len xs)
-  kept_all xs ys k i len at-end kp =
-      let front : take k ys ≡ filter (λ x. p (value x)) (take len xs) = kp.front ∙ ap (λ n. filter (λ x. p (value x)) (take n xs)) at-end in
-      let reads : in_use value k ys ≡ filter p (in_use value len xs) = ap (map value) front ∙ kept_map (take len xs) in
-      let short : k ≤ length ys = omega (arith, kp.behind, kp.within, kp.long) in
-      (omega (arith, kp.behind), (reads, ap length (sym reads) ∙ length-map (take k ys) value ∙ length-take-le k ys short), ap (λ n. drop n ys) (sym at-end) ∙ kp.rest ∙ ap (λ n. drop n xs) at-end)
 
 module _ {X A : Type 0} (below : A → A → Bool) (value : X → A) (t : A) where
   -- the stored time is not at or after t

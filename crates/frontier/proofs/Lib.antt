@@ -1,11 +1,11 @@
 pub mod Tables
 pub mod Walks
 pub mod Tests
-pub mod Retaining
 pub mod Beyond
 pub mod Joining
 pub mod Antichains
 pub mod Inserting
+pub mod Retaining
 pub mod Yielding
 pub mod Filling
 pub mod Adding

@@ -1,10 +1,11 @@
 -- A loop that calls a test at each entry, and moves those that it keeps to the front.
-use Rattle.std.proofs.Common.{◌≡◌, ℕ, ◌+◌, ◌<◌, ◌≤◌, Bool, true, false, cond, List, [], ◌∷◌, ◌++◌, map, length, get_or, take, drop, set, filter, sym, refl, ap, ◌∙◌, subst, arith}
+use Rattle.std.proofs.Common.{◌≡◌, ℕ, ◌+◌, ◌<◌, ◌≤◌, Bool, true, false, List, [], ◌∷◌, ◌++◌, map, length, get_or, take, drop, set, filter, sym, refl, ap, ◌∙◌, subst, arith}
 use Rattle.std.specs.List.{items_where_true}
 use Rattle.std.specs.List.Retain.{ReturnsInTurn, IsFiltered}
 use Rattle.std.proofs.Retain.{RetainInvariant, retain_drops, retain_unvisited, picked_push_true, answers_push}
 use Rattle.std.proofs.lemmas.List.{take_more_set, drop-set-lt, set-get_or, length-set, length_push, length-take-le, length-map}
 use Rattle.frontier.specs.Tables.{in_use, Holds}
+use Rattle.frontier.proofs.Inserting.{kept_map}
 
 -- the entries that answers pick lie among the first as many
 picked_of : {X : Type 0} (bs : List Bool) (xs : List X) → items_where_true bs (take (length bs) xs) ≡ items_where_true bs xs
@@ -87,15 +88,7 @@ module _ {X P : Type 0} (R : P → X → Bool → P → Type 0) where
 
 -- what is kept by a test of what entries read as
 module _ {X A : Type 0} (p : A → Bool) (value : X → A) where
-  one_more : (b : Bool) (x : X) (xs : List X) (vs : List A) → map value xs ≡ vs → map value (cond b (x ∷ xs) xs) ≡ cond b (value x ∷ vs) vs
-  one_more true x xs vs e = ap (λ l. value x ∷ l) e
-  one_more false x xs vs e = e
-
-  kept_map : (xs : List X) → map value (filter (λ x. p (value x)) xs) ≡ filter p (map value xs)
-  kept_map [] = refl
-  kept_map (x ∷ xs) = one_more (p (value x)) x (filter (λ y. p (value y)) xs) (filter p (map value xs)) (kept_map xs)
-
   pub kept_reads : (xs ys : List X) (k len : ℕ) → k ≤ len → len ≤ length xs → length ys ≡ length xs → take k ys ≡ filter (λ x. p (value x)) (take len xs) → Holds value k ys (filter p (in_use value len xs))
   kept_reads xs ys k len h within long e =
-      let reads : in_use value k ys ≡ filter p (in_use value len xs) = ap (map value) e ∙ kept_map (take len xs) in
+      let reads : in_use value k ys ≡ filter p (in_use value len xs) = ap (map value) e ∙ kept_map p value (take len xs) in
       (reads, ap length (sym reads) ∙ length-map (take k ys) value ∙ length-take-le k ys (omega arith))
