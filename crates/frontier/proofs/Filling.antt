@@ -25,18 +25,9 @@ inserting below = record { step = inserted below; all = inserted_all below; fit 
 abbrev pub adding : {A : Type 0} → (A → A → Bool) → (n : ℕ) → Fold (A × ℤ) (A × ℤ) n 11
 adding below n = record { step = λ es c. added below es c.0 c.1; all = added_all below; fit = room below n; all_none = λ _. refl; all_more = λ _ _ _. refl; fit_none = λ _. refl; fit_more = λ _ _ _. refl }
 
-and_true : (b : Bool) → b ≡ (b && true)
-and_true true = refl
-and_true false = refl
-
 regroup : (a b c : Bool) → (a && (b && c)) ≡ ((a && b) && c)
 regroup true b c = refl
 regroup false b c = refl
-
--- taking all into the start comes to what taking the rest into the front comes to
-pub record Filling {S E : Type 0} {n number : ℕ} (k : Fold S E n number) (start : List S) (all : List E) (front : List S) (rest : List E) : Type 0 where
-  pub made : k.all start all ≡ k.all front rest
-  pub room : k.fit start all ≡ k.fit front rest
 
 module _ {S E : Type 0} {n number : ℕ} (k : Fold S E n number) where
   pub all_append : (es : List S) (xs ys : List E) → k.all es (xs ++ ys) ≡ k.all (k.all es xs) ys
@@ -61,57 +52,6 @@ module _ {S E : Type 0} {n number : ℕ} (k : Fold S E n number) where
 
   pub all_one : (es : List S) (x : E) → k.step es x ≡ k.all es (x ∷ [])
   all_one es x = sym (k.all_more es x [] ∙ k.all_none (k.step es x))
-
-  pub fit_one : (es : List S) (x : E) → leb (length (k.step es x)) n ≡ k.fit es (x ∷ [])
-  fit_one es x = and_true (leb (length (k.step es x)) n) ∙ ap (λ b. leb (length (k.step es x)) n && b) (sym (k.fit_none (k.step es x))) ∙ sym (k.fit_more es x [])
-
--- a table that is filled: used entries of xs are in use, and a part of what is left is taken next
-module _ {X S E : Type 0} {n number : ℕ} (k : Fold S E n number) (value : X → S) (start : List S) (all : List E) (used : ℕ) (xs : List X) (few : used ≤ n) (long : n ≤ length xs) (left part rest : List E) (turn : left ≡ part ++ rest) (fill : Filling k start all (in_use value used xs) left) where
-  abbrev pub front : List S
-  front = in_use value used xs
-
-  abbrev pub asks : List (Bool × ℕ)
-  asks = table_asks n number (length xs) used (k.fit front part)
-
-  pub goes_on : (m : ℕ) (ys : List X) → first_no asks ≡ None → Holds value m ys (k.all front part) → (m ≤ n) × Filling k start all (in_use value m ys) rest
-  goes_on m ys e made =
-      let fit : k.fit front part ≡ true = (accepted n number (length xs) used (k.fit front part) e).2 in
-      let size : length front ≤ n = omega (arith, length_in_use value used xs (omega arith)) in (
-        omega (arith, made.1, fit_length k front part size fit),
-        record {
-          made = fill.made ∙ ap (k.all front) turn ∙ all_append k front part rest ∙ ap (λ es. k.all es rest) (sym made.0);
-          room = fill.room ∙ ap (k.fit front) turn ∙ fit_append k front part rest ∙ ap (λ b. b && k.fit (k.all front part) rest) fit ∙ ap (λ es. k.fit es rest) (sym made.0);
-        },
-      )
-
-  pub stops : (f : ℕ) → first_no asks ≡ Some f → (l len : ℕ) → len ≤ n → n ≤ l → first_no (table_asks n number l len (k.fit start all)) ≡ Some f
-  stops f e l len h j =
-      let many = refused_full n number (length xs) used (k.fit front part) few long f e in
-      let full = fill.room ∙ ap (k.fit front) turn ∙ fit_append k front part rest ∙ and_left (k.fit front part) (k.fit (k.all front part) rest) many.0 in
-      table_full n number l len (k.fit start all) h j full ∙ ap Some (sym many.1)
-
--- the same where one item is taken next
-module _ {X S E : Type 0} {n number : ℕ} (k : Fold S E n number) (value : X → S) (start : List S) (all : List E) (used : ℕ) (xs : List X) (few : used ≤ n) (long : n ≤ length xs) (left : List E) (x : E) (rest : List E) (turn : left ≡ x ∷ rest) (fill : Filling k start all (in_use value used xs) left) where
-  asked : first_no (table_asks n number (length xs) used (leb (length (k.step (in_use value used xs) x)) n)) ≡ first_no (table_asks n number (length xs) used (k.fit (in_use value used xs) (x ∷ [])))
-  asked = ap (λ b. first_no (table_asks n number (length xs) used b)) (fit_one k (in_use value used xs) x)
-
-  pub goes_on_one : (m : ℕ) (ys : List X) → first_no (table_asks n number (length xs) used (leb (length (k.step (in_use value used xs) x)) n)) ≡ None → Holds value m ys (k.step (in_use value used xs) x) → (m ≤ n) × Filling k start all (in_use value m ys) rest
-  goes_on_one m ys e made =
-      let one = all_one k (in_use value used xs) x in
-      goes_on k value start all used xs few long left (x ∷ []) rest turn fill m ys (sym asked ∙ e) (made.0 ∙ one, sym (ap length one) ∙ made.1)
-
-  pub stops_one : (f : ℕ) → first_no (table_asks n number (length xs) used (leb (length (k.step (in_use value used xs) x)) n)) ≡ Some f → (l len : ℕ) → len ≤ n → n ≤ l → first_no (table_asks n number l len (k.fit start all)) ≡ Some f
-  stops_one f e l len h j = stops k value start all used xs few long left (x ∷ []) rest turn fill f (sym asked ∙ e) l len h j
-
--- an item that is passed over
-pub goes_past : {S E : Type 0} {n number : ℕ} (k : Fold S E n number) (start : List S) (all : List E) (front : List S) (left rest : List E) → left ≡ rest → Filling k start all front left → Filling k start all front rest
-goes_past k start all front left rest turn fill = record { made = fill.made ∙ ap (k.all front) turn; room = fill.room ∙ ap (k.fit front) turn }
-
--- nothing is left to take
-pub filled : {X S E : Type 0} {n number : ℕ} (k : Fold S E n number) (value : X → S) (start : List S) (all left : List E) (used : ℕ) (xs : List X) → used ≤ length xs → left ≡ [] → Filling k start all (in_use value used xs) left → (l len : ℕ) → len ≤ n → n ≤ l → (first_no (table_asks n number l len (k.fit start all)) ≡ None) × Holds value used xs (k.all start all)
-filled {n = n} {number = number} k value start all left used xs long none fill l len h j =
-    let made = fill.made ∙ ap (k.all (in_use value used xs)) none ∙ k.all_none (in_use value used xs) in
-    (table_fits n number l len (k.fit start all) h j (fill.room ∙ ap (k.fit (in_use value used xs)) none ∙ k.fit_none (in_use value used xs)), (sym made, ap length made ∙ length_in_use value used xs long))
 
 -- a frontier made from nothing, and copied from the table in which it was made
 module _ {X A : Type 0} (below : A → A → Bool) (value : X → A) (all : List A) (n : ℕ) (xs : List X) (made : Holds value n xs (inserted_all below [] all)) where
