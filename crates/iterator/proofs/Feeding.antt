@@ -5,15 +5,13 @@ use Rattle.std.proofs.lemmas.List.Sums.{length-filter, count_by-le-length}
 use Rattle.questions.specs.declared.Refusal.{Refusal}
 use Rattle.questions.specs.Questions.{number_of, first_no}
 use Rattle.frontier.specs.Frontiers.{beyond}
-use Rattle.frontier.specs.Tables.{in_use, counted, frontier_size}
-use Rattle.frontier.proofs.Tables.{sub_zero}
+use Rattle.frontier.specs.Tables.{in_use, frontier_size}
 use Rattle.capture.specs.Answers.{Answer, accepted, refused, answer}
 use Rattle.capture.specs.Held.{Held as Meant, feed, feed_asks, taken_in, published}
 use Rattle.capture.specs.Kinds.{Kinds}
 use Rattle.capture.specs.Messages.{Change, Statement, Message, changes, statement, those_behind}
 use Rattle.capture.specs.Sizes.{reader_changes}
 use Rattle.capture.specs.Statements.{lower_edge}
-use Rattle.capture.specs.Stored.{stored_statement}
 use Rattle.capture.specs.declared.stored.StoredProgress.{StoredProgress}
 use Rattle.iterator.specs.Intervals.{LetsOut}
 use Rattle.iterator.specs.Readers.{Tables, tables, Few, after, held_in, Fed}
@@ -103,15 +101,7 @@ short_refused k sizes m h e = ap (λ b. first_no (feed_asks k b m h)) e ∙ at_o
     at_once (changes cs) = refl
     at_once (statement s) = refl
 
--- a reader whose tables are handed on as parts
-pub cut_held : {X Y D A R : Type 0} (value : Y → A) (reads : X → Change D A R) (h : Held) (t : Tables X Y) → ◌≡◌ {A = Meant D A R} (record { progress = record { frontier = map value (take (h.progress.frontier - 0) t.frontier); counts = map (counted value) (take (h.progress.counts - 0) t.counts); waiting = in_use (stored_statement value) h.progress.waiting t.waiting }; reported = map value (take (h.reported - 0) t.reported); updates = map reads (take (h.held - 0) t.updates); drops = h.drops }) (held_in value reads h t)
-cut_held {X} {Y} {D} {A} {R} value reads h t =
-    let made : ℕ → ℕ → ℕ → ℕ → Meant D A R = λ a b d e. record { progress = record { frontier = in_use value a t.frontier; counts = in_use (counted value) b t.counts; waiting = in_use (stored_statement value) h.progress.waiting t.waiting }; reported = in_use value d t.reported; updates = in_use reads e t.updates; drops = h.drops } in
-    ap (λ a. made a (h.progress.counts - 0) (h.reported - 0) (h.held - 0)) (sub_zero h.progress.frontier)
-    ∙ ap (λ b. made h.progress.frontier b (h.reported - 0) (h.held - 0)) (sub_zero h.progress.counts)
-    ∙ ap (λ d. made h.progress.frontier h.progress.counts d (h.held - 0)) (sub_zero h.reported)
-    ∙ ap (λ e. made h.progress.frontier h.progress.counts h.reported e) (sub_zero h.held)
-
+-- the same reader but for its counts, its changes and its tally
 pub same_held : {D A R : Type 0} {f g : List A} {c c' : List (A × ℤ)} {w : List (Statement A)} {u u' : List (Change D A R)} {d d' : ℕ} → c ≡ c' → u ≡ u' → d ≡ d' → ◌≡◌ {A = Meant D A R} (record { progress = record { frontier = f; counts = c; waiting = w }; reported = g; updates = u; drops = d }) (record { progress = record { frontier = f; counts = c'; waiting = w }; reported = g; updates = u'; drops = d' })
 same_held {f = f} {g = g} {c' = c'} {w = w} {u = u} {u' = u'} {d = d} e a b = ap (λ x. record { progress = record { frontier = f; counts = x; waiting = w }; reported = g; updates = u; drops = d }) e ∙ ap (λ x. record { progress = record { frontier = f; counts = c'; waiting = w }; reported = g; updates = x; drops = d }) a ∙ ap (λ x. record { progress = record { frontier = f; counts = c'; waiting = w }; reported = g; updates = u'; drops = x }) b
 

@@ -56,7 +56,7 @@ module _ {X Y D A R : Type 0} (k : Kinds D A R) (value : Y → A) (reads : X →
         → take (s.held + w.new) V ≡ take s.held t.updates ++ take w.new new
         → drops ≡ min (s.drops + (length cs - w.new)) largest_tally
         → held_in value reads (record { progress = record { frontier = s.progress.frontier; counts = w.counts; waiting = s.progress.waiting }; reported = s.reported; held = s.held + w.new; drops = drops }) (tables t.frontier t.reported C V t.waiting)
-          ≡ taken_in k (changes (map reads cs)) before
+        ≡ taken_in k (changes (map reads cs)) before
     taken sums C V drops left front all dropped =
         same_held (ap (map (counted value)) front ∙ left)
         (ap (map reads) all ∙ map-append reads (take s.held t.updates) (take w.new new) ∙ ap (λ l. before.updates ++ l) reads_new.0)

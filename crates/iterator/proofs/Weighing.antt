@@ -106,12 +106,20 @@ module _ {X Y D A R : Type 0} (k : Kinds D A R) (value : Y → A) (reads : X →
       (subst (λ i. FreshWeighed k value reads r cs (take s.reported t.reported) (take i t.updates) (take (s.progress.counts - 0) t.counts) new sums) (sub_zero s.held)
       (subst (λ i. FreshWeighed k value reads r cs (take i t.reported) (take (s.held - 0) t.updates) (take (s.progress.counts - 0) t.counts) new sums) (sub_zero s.reported) f))
 
+  module _ (short : length cs ≤ message_changes) where
+    past_2 : first_no (changes_asks k (map reads cs) before) ≡ first_no (asks ++ (edge_fits k.time then, 12) ∷ [])
+    past_2 = ask_next (short_changes (map reads cs)) 2 (asks ++ (edge_fits k.time then, 12) ∷ []) (le-leb (length (map reads cs)) message_changes (omega (arith, length-map cs reads)))
+
+    -- they were refused before the lower edge was made
+    pub changes_refused : (f : Refusal) (new : List X) (sums : List (Y × ℤ)) (edge : List Y) → FreshWeighed k value reads (Err f) cs (take s.reported t.reported) (take s.held t.updates) (take s.progress.counts t.counts) new sums → WeighsChanges k value reads (Err f) (map reads cs) before new sums edge
+    changes_refused f new sums edge told = (past_2 ∙ asked_until ((edge_fits k.time then, 12) ∷ []) asks (number_of f) told.0, tt)
+
   module _ (short : length cs ≤ message_changes) (w : Weighed) (new : List X) (sums : List (Y × ℤ)) (told : FreshWeighed k value reads (Ok w) cs (take s.reported t.reported) (take s.held t.updates) (take s.progress.counts t.counts) new sums) where
     abbrev left : Lengths
     left = record { frontier = s.progress.frontier; counts = w.counts; waiting = s.progress.waiting }
 
     on : first_no (changes_asks k (map reads cs) before) ≡ first_no ((edge_fits k.time then, 12) ∷ [])
-    on = ask_next (short_changes (map reads cs)) 2 (asks ++ (edge_fits k.time then, 12) ∷ []) (le-leb (length (map reads cs)) message_changes (omega (arith, length-map cs reads))) ∙ asked_on_from ((edge_fits k.time then, 12) ∷ []) asks told.0
+    on = past_2 short ∙ asked_on_from ((edge_fits k.time then, 12) ∷ []) asks told.0
 
     pub made : progress_of value left t.frontier sums t.waiting ≡ then
     made = ap (λ c. record { frontier = before.progress.frontier; counts = c; waiting = before.progress.waiting }) told.1.1.0

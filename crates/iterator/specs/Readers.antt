@@ -4,7 +4,7 @@ use Rattle.std.specs.Borrow.{MutBor}
 use Rattle.questions.specs.declared.Refusal.{Refusal}
 use Rattle.questions.specs.Questions.{number_of}
 use Rattle.frontier.specs.Counts.{room}
-use Rattle.frontier.specs.Tables.{in_use, Holds, frontier_size}
+use Rattle.frontier.specs.Tables.{in_use, frontier_size}
 use Rattle.capture.specs.Answers.{Answer, refused, accepted}
 use Rattle.capture.specs.Held.{Held as Meant, feed, news, lowered_by}
 use Rattle.capture.specs.Kinds.{Kinds}

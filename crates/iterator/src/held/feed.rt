@@ -55,7 +55,9 @@ impl Held {
         };
         match message {
             Message::Updates(changes) => feeding.take_changes(changes, new, sums, edge),
-            Message::Progress(statement) => feeding.take_statement(statement, times, sums, statements, edge),
+            Message::Progress(statement) => feeding.take_statement(
+                statement, times, sums, statements, edge,
+            ),
         }
     }
 }

@@ -11,12 +11,6 @@ returns-then-not-are_new_sized g c =
     let k = kinds g.D.Same.alike o.below g.T.Lattice.joined g.T.Timestamp.start g.R.Same.alike in
     new_short k o.value (change_of g.D.Same.value o.value g.R.Same.value) c.args.frontier.now c.args.reported.now c.args.heeded.now c.args.counts.now c.args.waiting_counts.now c.args.pending.now c.args.waiting.now (sym c.are_new_sized.ensures ∙ c.if-not-are_new_sized.true)
 
-pub bounds-frontier-0 : goal.bounds-frontier-0
-bounds-frontier-0 g c =
-    let sizes = new_told c.args.frontier.now c.args.reported.now c.args.heeded.now c.args.counts.now c.args.waiting_counts.now c.args.pending.now c.args.waiting.now (sym c.are_new_sized.ensures ∙ c.if-not-are_new_sized.false) in
-    let h : 0 < length c.args.frontier.now = omega arith in
-    search rules
-
 pub bounds-reported-0 : goal.bounds-reported-0
 bounds-reported-0 g c =
     let sizes = new_told c.args.frontier.now c.args.reported.now c.args.heeded.now c.args.counts.now c.args.waiting_counts.now c.args.pending.now c.args.waiting.now (sym c.are_new_sized.ensures ∙ c.if-not-are_new_sized.false) in

@@ -3,7 +3,6 @@ use Rattle.std.proofs.lemmas.List.{length-map, length-take}
 use Rattle.frontier.specs.Tables.{in_use, frontier_size}
 use Rattle.frontier.proofs.Tables.{sub_zero}
 use Rattle.capture.specs.Messages.{changes}
-use Rattle.capture.specs.Sizes.{reader_changes}
 use Rattle.capture.specs.Statements.{lower_edge}
 use Rattle.capture.specs.Kinds.{kinds}
 use Rattle.capture.specs.Views.{change_of}
@@ -54,7 +53,6 @@ returns g c =
     let t = own f in
     let told = c.in_ok-w.ensures in
     let w = c.in_ok-w.w in
-
     let few = few_held k o.value reads s t (omega (arith, c.requires.reader.0.4, c.requires.reader.4)) c.args.changes.now told.0 w c.weigh_changes.new.new told.1.0 in
     let C = c.copy_entries.new.to in
     let V = c.append_entries.new.to in
