@@ -1,6 +1,6 @@
 -- Question 1: tables that are at least their sizes, as tests and as numbers.
 use Rattle.std.proofs.Common.{◌≡◌, ℕ, ◌≤◌, true, ◌&&◌, leb, List, length, ℤ}
-use Rattle.std.proofs.lemmas.Bool.{and_from, and_parts, le-leb, leb-true}
+use Rattle.std.proofs.lemmas.Bool.{and_parts, leb-true}
 use Rattle.frontier.specs.Tables.{frontier_size}
 use Rattle.capture.specs.Sizes.{reader_changes, reader_counts, reader_statements}
 use Rattle.capture.specs.declared.stored.StoredProgress.{StoredProgress}
@@ -17,18 +17,9 @@ module _ (a x b y c z d v e w : ℕ) where
       let s = and_parts (leb d v) (leb e w) r.1 in
       (leb-true a x p.0, leb-true b y q.0, leb-true c z r.0, leb-true d v s.0, leb-true e w s.1)
 
-  five_yes : (a ≤ x) × (b ≤ y) × (c ≤ z) × (d ≤ v) × (e ≤ w) → (leb a x && (leb b y && (leb c z && (leb d v && leb e w)))) ≡ true
-  five_yes h =
-      and_from (leb a x) (leb b y && (leb c z && (leb d v && leb e w))) (le-leb a x h.0)
-      (and_from (leb b y) (leb c z && (leb d v && leb e w)) (le-leb b y h.1)
-      (and_from (leb c z) (leb d v && leb e w) (le-leb c z h.2) (and_from (leb d v) (leb e w) (le-leb d v h.3) (le-leb e w h.4))))
-
 module _ {X Y : Type 0} (t : Tables X Y) where
   pub own_tells : own_sized t ≡ true → (frontier_size ≤ length t.frontier) × (frontier_size ≤ length t.reported) × (reader_counts ≤ length t.counts) × (reader_changes ≤ length t.updates) × (reader_statements ≤ length t.waiting)
   own_tells e = five_tell frontier_size (length t.frontier) frontier_size (length t.reported) reader_counts (length t.counts) reader_changes (length t.updates) reader_statements (length t.waiting) e
-
-  pub own_yes : (frontier_size ≤ length t.frontier) × (frontier_size ≤ length t.reported) × (reader_counts ≤ length t.counts) × (reader_changes ≤ length t.updates) × (reader_statements ≤ length t.waiting) → own_sized t ≡ true
-  own_yes e = five_yes frontier_size (length t.frontier) frontier_size (length t.reported) reader_counts (length t.counts) reader_changes (length t.updates) reader_statements (length t.waiting) e
 
 module _ {X Y : Type 0} (h : Held) (t : Tables X Y) (P : List X) (Q : List Y) (F : List Y) (C : List (Y × ℤ)) (W : List (StoredProgress Y)) (E : List Y) (N : List X) where
   -- the scratch tables are at least their sizes
@@ -45,12 +36,3 @@ module _ {X Y : Type 0} (h : Held) (t : Tables X Y) (P : List X) (Q : List Y) (F
       let numbers = five_tell h.progress.frontier frontier_size h.progress.counts reader_counts h.progress.waiting reader_statements h.reported frontier_size h.held reader_changes a.0 in
       let spare = five_tell frontier_size (length F) reader_counts (length C) reader_statements (length W) frontier_size (length E) reader_changes (length N) d.1 in
       ((numbers, own.0, own.1, own.2, own.3, own.4, leb-true reader_changes (length P) answers.0, leb-true frontier_size (length Q) answers.1), spare)
-
-  -- for callers whose tables are at least their sizes
-  pub all_yes : Sized h t P Q → Spare → all_sized h t P Q F C W E N ≡ true
-  all_yes s spare =
-      and_from (few h) (own_sized t && (answers_sized P Q && scratch_sized F C W E N))
-      (five_yes h.progress.frontier frontier_size h.progress.counts reader_counts h.progress.waiting reader_statements h.reported frontier_size h.held reader_changes s.0)
-      (and_from (own_sized t) (answers_sized P Q && scratch_sized F C W E N) (own_yes t (s.1, s.2, s.3, s.4, s.5))
-      (and_from (answers_sized P Q) (scratch_sized F C W E N) (and_from (leb reader_changes (length P)) (leb frontier_size (length Q)) (le-leb reader_changes (length P) s.6) (le-leb frontier_size (length Q) s.7))
-      (five_yes frontier_size (length F) reader_counts (length C) reader_statements (length W) frontier_size (length E) reader_changes (length N) spare)))
