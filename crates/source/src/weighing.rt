@@ -4,7 +4,7 @@
 // the tables' sizes.  Where a step refuses, what it wrote into the scratch tables stays there.
 ghost use Rattle.std.specs.Prelude.{◌≤◌, length};
 ghost use Rattle.frontier.specs.Tables.{frontier_size};
-ghost use Rattle.capture.specs.Kinds.{kinds};
+ghost use Rattle.capture.specs.Kinds.{kinds_by};
 ghost use Rattle.capture.specs.Sizes.{reader_changes, reader_counts};
 ghost use Rattle.capture.specs.Views.{change_of};
 ghost use Rattle.source.specs.Weighing.{ChangesWeighed, Brought};
@@ -28,7 +28,7 @@ pub(crate) fn weigh_changes<D: Same + Copy, T: Timestamp + Copy, R: Same + Copy>
     sums: &mut [(T, i64)],
 ) -> Result<Weighed, Refusal>
     requires { (length pending.now ≤ reader_changes) × (length waiting_counts.now ≤ reader_counts) × (reader_changes ≤ length new.old) × (reader_counts ≤ length sums.old) }
-    ensures { ChangesWeighed (kinds D.Same.alike T.PartialOrder.below T.Lattice.joined T.Timestamp.start R.Same.alike) T.PartialOrder.value (change_of D.Same.value T.PartialOrder.value R.Same.value) result changes.now heeded.now pending.now waiting_counts.now new.new sums.new }
+    ensures { ChangesWeighed (kinds_by D.Same T.Timestamp R.Same) T.PartialOrder.value (change_of D.Same.value T.PartialOrder.value R.Same.value) result changes.now heeded.now pending.now waiting_counts.now new.new sums.new }
 {
     if changes.len() > MESSAGE_CHANGES {
         return Err(Refusal::LongMessage);

@@ -2,7 +2,7 @@
 ghost use Rattle.std.specs.Prelude.{◌≤◌, map, length};
 ghost use Rattle.frontier.specs.Tables.{frontier_size};
 ghost use Rattle.capture.specs.Messages.{changes as changes_of};
-ghost use Rattle.capture.specs.Kinds.{kinds};
+ghost use Rattle.capture.specs.Kinds.{kinds_by};
 ghost use Rattle.capture.specs.Sizes.{reader_changes, reader_counts};
 ghost use Rattle.capture.specs.Views.{change_of};
 ghost use Rattle.iterator.specs.Readers.{held_in};
@@ -28,7 +28,7 @@ impl<'a, D: Same + Copy, T: Timestamp + Copy, R: Same + Copy> Feeding<'a, D, T, 
     ) -> Result<(Weighed, usize), Refusal>
         requires reader { Ready self.now }
         requires scratch { (reader_changes ≤ length new.old) × (reader_counts ≤ length sums.old) × (frontier_size ≤ length edge.old) }
-        ensures { WeighsChanges (kinds D.Same.alike T.PartialOrder.below T.Lattice.joined T.Timestamp.start R.Same.alike) T.PartialOrder.value (change_of D.Same.value T.PartialOrder.value R.Same.value) result (map (change_of D.Same.value T.PartialOrder.value R.Same.value) changes.now) (held_in T.PartialOrder.value (change_of D.Same.value T.PartialOrder.value R.Same.value) self.now.reader.now (own self.now)) new.new sums.new edge.new }
+        ensures { WeighsChanges (kinds_by D.Same T.Timestamp R.Same) T.PartialOrder.value (change_of D.Same.value T.PartialOrder.value R.Same.value) result (map (change_of D.Same.value T.PartialOrder.value R.Same.value) changes.now) (held_in T.PartialOrder.value (change_of D.Same.value T.PartialOrder.value R.Same.value) self.now.reader.now (own self.now)) new.new sums.new edge.new }
     {
         if changes.len() > MESSAGE_CHANGES {
             return Err(Refusal::LongMessage);
@@ -59,7 +59,7 @@ impl<'a, D: Same + Copy, T: Timestamp + Copy, R: Same + Copy> Feeding<'a, D, T, 
     ) -> Result<Option<(usize, usize)>, Refusal>
         requires reader { Ready self }
         requires scratch { (reader_changes ≤ length new.old) × (reader_counts ≤ length sums.old) × (frontier_size ≤ length edge.old) }
-        ensures { Takes (kinds D.Same.alike T.PartialOrder.below T.Lattice.joined T.Timestamp.start R.Same.alike) T.PartialOrder.value (change_of D.Same.value T.PartialOrder.value R.Same.value) (changes_of (map (change_of D.Same.value T.PartialOrder.value R.Same.value) changes.now)) result self.entry self.exit }
+        ensures { Takes (kinds_by D.Same T.Timestamp R.Same) T.PartialOrder.value (change_of D.Same.value T.PartialOrder.value R.Same.value) (changes_of (map (change_of D.Same.value T.PartialOrder.value R.Same.value) changes.now)) result self.entry self.exit }
     {
         let (w, end) = self.weigh_changes(changes, new, sums, edge)?;
         let Feeding {

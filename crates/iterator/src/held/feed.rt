@@ -1,5 +1,5 @@
 // Feed, the call of a held reader.
-ghost use Rattle.capture.specs.Kinds.{kinds};
+ghost use Rattle.capture.specs.Kinds.{kinds_by};
 ghost use Rattle.capture.specs.Views.{change_of, message_of};
 ghost use Rattle.iterator.specs.Readers.{lent, left, all_sized, Fed};
 
@@ -20,7 +20,7 @@ impl Held {
         answer: HeldAnswer<'_, D, T, R>,
         scratch: HeldScratch<'_, D, T, R>,
     ) -> Result<Option<(usize, usize)>, Refusal>
-        ensures { Fed T.PartialOrder.value (change_of D.Same.value T.PartialOrder.value R.Same.value) (kinds D.Same.alike T.PartialOrder.below T.Lattice.joined T.Timestamp.start R.Same.alike)
+        ensures { Fed T.PartialOrder.value (change_of D.Same.value T.PartialOrder.value R.Same.value) (kinds_by D.Same T.Timestamp R.Same)
             (all_sized self.old (lent tables.entry waiting.old) answer.entry.published.now answer.entry.told.now scratch.entry.frontier.now scratch.entry.counts.now scratch.entry.waiting.now scratch.entry.edge.now scratch.entry.changes.now)
             (message_of D.Same.value T.PartialOrder.value R.Same.value message.entry) result
             self.old (lent tables.entry waiting.old) self.new (left tables.exit waiting.new)

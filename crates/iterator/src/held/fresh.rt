@@ -2,7 +2,7 @@
 ghost use Rattle.std.specs.Prelude.{◌≡◌, [], ◌∷◌};
 ghost use Rattle.questions.specs.Answers.{Answered};
 ghost use Rattle.capture.specs.Held.{fresh_held};
-ghost use Rattle.capture.specs.Kinds.{kinds};
+ghost use Rattle.capture.specs.Kinds.{kinds_by};
 ghost use Rattle.capture.specs.Views.{change_of};
 ghost use Rattle.iterator.specs.Readers.{tables, held_in, own_sized, Few};
 
@@ -25,7 +25,7 @@ impl Held {
     ) -> Result<Held, Refusal>
         ensures { Answered result
             ((own_sized (tables frontier.old reported.old counts.now held.now waiting.now), 1) ∷ [])
-            (λ h. (held_in T.PartialOrder.value (change_of D.Same.value T.PartialOrder.value R.Same.value) h (tables frontier.new reported.new counts.now held.now waiting.now) ≡ fresh_held (kinds D.Same.alike T.PartialOrder.below T.Lattice.joined T.Timestamp.start R.Same.alike)) × Few h)
+            (λ h. (held_in T.PartialOrder.value (change_of D.Same.value T.PartialOrder.value R.Same.value) h (tables frontier.new reported.new counts.now held.now waiting.now) ≡ fresh_held (kinds_by D.Same T.Timestamp R.Same)) × Few h)
             ((frontier.new ≡ frontier.old) × (reported.new ≡ reported.old)) }
     {
         if !are_own_sized(frontier, reported, counts, held, waiting) {

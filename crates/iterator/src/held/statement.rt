@@ -2,10 +2,10 @@
 ghost use Rattle.std.specs.Prelude.{◌≤◌, length};
 ghost use Rattle.frontier.specs.Tables.{frontier_size};
 ghost use Rattle.capture.specs.Messages.{statement as statement_message};
-ghost use Rattle.capture.specs.Kinds.{kinds};
+ghost use Rattle.capture.specs.Kinds.{kinds_by, time_by};
 ghost use Rattle.capture.specs.Sizes.{reader_counts, reader_statements};
 ghost use Rattle.capture.specs.Views.{change_of, statement_of};
-ghost use Rattle.progress.specs.Tables.{time_of, progress_of};
+ghost use Rattle.progress.specs.Tables.{progress_of};
 
 use super::feeding::Feeding;
 use capture::{Progress, StoredProgress};
@@ -29,7 +29,7 @@ impl<'a, D: Same + Copy, T: Timestamp + Copy, R: Same + Copy> Feeding<'a, D, T, 
     ) -> Result<(Lengths, usize), Refusal>
         requires reader { Ready self.now }
         requires scratch { (frontier_size ≤ length times.old) × (reader_counts ≤ length sums.old) × (reader_statements ≤ length statements.old) × (frontier_size ≤ length edge.old) }
-        ensures { WeighsStatement (time_of T.PartialOrder.below T.Lattice.joined T.Timestamp.start) T.PartialOrder.value result (statement_of T.PartialOrder.value statement.entry) (progress_of T.PartialOrder.value self.now.reader.now.progress self.now.frontier.now self.now.counts.now self.now.waiting.now) times.new sums.new statements.new edge.new }
+        ensures { WeighsStatement (time_by T.Timestamp) T.PartialOrder.value result (statement_of T.PartialOrder.value statement.entry) (progress_of T.PartialOrder.value self.now.reader.now.progress self.now.frontier.now self.now.counts.now self.now.waiting.now) times.new sums.new statements.new edge.new }
     {
         let lengths = self.reader.progress;
         copy_entries(self.frontier, times, lengths.frontier);
@@ -54,7 +54,7 @@ impl<'a, D: Same + Copy, T: Timestamp + Copy, R: Same + Copy> Feeding<'a, D, T, 
     ) -> Result<Option<(usize, usize)>, Refusal>
         requires reader { Ready self }
         requires scratch { (frontier_size ≤ length times.old) × (reader_counts ≤ length sums.old) × (reader_statements ≤ length statements.old) × (frontier_size ≤ length edge.old) }
-        ensures { Takes (kinds D.Same.alike T.PartialOrder.below T.Lattice.joined T.Timestamp.start R.Same.alike) T.PartialOrder.value (change_of D.Same.value T.PartialOrder.value R.Same.value) (statement_message (statement_of T.PartialOrder.value statement.entry)) result self.entry self.exit }
+        ensures { Takes (kinds_by D.Same T.Timestamp R.Same) T.PartialOrder.value (change_of D.Same.value T.PartialOrder.value R.Same.value) (statement_message (statement_of T.PartialOrder.value statement.entry)) result self.entry self.exit }
     {
         let (n, end) = self.weigh_statement(statement, times, sums, statements, edge)?;
         let Feeding {

@@ -1,5 +1,5 @@
 // Heeding.
-ghost use Rattle.capture.specs.Kinds.{kinds};
+ghost use Rattle.capture.specs.Kinds.{kinds_by};
 ghost use Rattle.capture.specs.Views.{change_of};
 ghost use Rattle.source.specs.Calls.{Heeded};
 
@@ -17,7 +17,7 @@ impl Prompt {
         heeded: &mut [T],
         pending: &mut [(D, T, R)],
     ) -> Result<(), Refusal>
-        ensures { Heeded (kinds D.Same.alike T.PartialOrder.below T.Lattice.joined T.Timestamp.start R.Same.alike) T.PartialOrder.value (change_of D.Same.value T.PartialOrder.value R.Same.value) result self.old self.new reported.now heeded.old heeded.new pending.old pending.new }
+        ensures { Heeded (kinds_by D.Same T.Timestamp R.Same) T.PartialOrder.value (change_of D.Same.value T.PartialOrder.value R.Same.value) result self.old self.new reported.now heeded.old heeded.new pending.old pending.new }
     {
         if !self.are_heed_sized(reported, heeded, pending) {
             return Err(Refusal::ShortTable);

@@ -1,5 +1,5 @@
 // Sifting changes.
-ghost use Rattle.capture.specs.Kinds.{kinds};
+ghost use Rattle.capture.specs.Kinds.{kinds_by};
 ghost use Rattle.capture.specs.Views.{change_of};
 ghost use Rattle.source.specs.Calls.{Sifted};
 
@@ -22,7 +22,7 @@ impl Prompt {
         new: &mut [(D, T, R)],
         sums: &mut [(T, i64)],
     ) -> Result<usize, Refusal>
-        ensures { Sifted (kinds D.Same.alike T.PartialOrder.below T.Lattice.joined T.Timestamp.start R.Same.alike) T.PartialOrder.value (change_of D.Same.value T.PartialOrder.value R.Same.value) result changes.now self.old self.new heeded.now waiting_counts.old waiting_counts.new pending.old pending.new shipped.old shipped.new new.old sums.old }
+        ensures { Sifted (kinds_by D.Same T.Timestamp R.Same) T.PartialOrder.value (change_of D.Same.value T.PartialOrder.value R.Same.value) result changes.now self.old self.new heeded.now waiting_counts.old waiting_counts.new pending.old pending.new shipped.old shipped.new new.old sums.old }
     {
         if !self.are_sift_sized(heeded, waiting_counts, pending, shipped, new, sums) {
             return Err(Refusal::ShortTable);

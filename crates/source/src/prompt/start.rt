@@ -1,5 +1,5 @@
 // Starting a reader.
-ghost use Rattle.capture.specs.Kinds.{kinds};
+ghost use Rattle.capture.specs.Kinds.{kinds_by};
 ghost use Rattle.capture.specs.Views.{change_of};
 ghost use Rattle.source.specs.Calls.{Started};
 
@@ -21,7 +21,7 @@ impl Prompt {
         pending: &[(D, T, R)],
         waiting: &[StoredProgress<T>],
     ) -> Result<Prompt, Refusal>
-        ensures { Started (kinds D.Same.alike T.PartialOrder.below T.Lattice.joined T.Timestamp.start R.Same.alike) T.PartialOrder.value (change_of D.Same.value T.PartialOrder.value R.Same.value) result frontier.old frontier.new reported.old reported.new heeded.old heeded.new counts.now waiting_counts.now pending.now waiting.now }
+        ensures { Started (kinds_by D.Same T.Timestamp R.Same) T.PartialOrder.value (change_of D.Same.value T.PartialOrder.value R.Same.value) result frontier.old frontier.new reported.old reported.new heeded.old heeded.new counts.now waiting_counts.now pending.now waiting.now }
     {
         if !are_new_sized(
             frontier,
