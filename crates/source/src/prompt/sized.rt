@@ -1,4 +1,5 @@
-// Whether the tables handed to a call are at least their sizes, as question 1 asks.
+// Whether the tables handed to a call are at least their sizes, as question 1 asks.  One line a table
+// says which is asked for what; a chain over sizes would be no plainer.
 ghost use Rattle.std.specs.Prelude.{◌≡◌};
 ghost use Rattle.source.specs.Tables.{new_sized, sift_sized, note_sized, settle_sized, heed_sized};
 
