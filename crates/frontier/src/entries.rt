@@ -8,6 +8,7 @@ ghost use Rattle.std.specs.List.Retain.{IsFiltered};
 
 // Moves those of the first `len` entries that the test keeps to the front, in their order, and tells
 // how many they are.  What stays in its place is not written.
+// A loop over places: it writes into the table that it reads, which no chain does.
 pub fn retain<X: Copy, F: FnMut(&X) -> bool>(table: &mut [X], len: usize, mut keep: F) -> usize
     requires callable { F.IsAlwaysCallable keep }
     requires inside { len ≤ length table.old }

@@ -1,7 +1,8 @@
 // The join and the meet of two lists of times, which are frontiers.
 //
 // Both are made in a scratch table first, so that a refusal writes nothing into the other; of the
-// two tables the shorter counts for question 1.
+// two tables the shorter counts for question 1.  They are two functions, since a join asks more of its
+// times than a meet, and the step that fills the scratch table is all that differs.
 ghost use Rattle.std.specs.Prelude.{◌≡◌, min, [], ◌++◌, map, length, drop};
 ghost use Rattle.questions.specs.Answers.{Answered};
 ghost use Rattle.frontier.specs.Frontiers.{fits, pairwise, join, meet};

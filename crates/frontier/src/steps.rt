@@ -9,7 +9,6 @@ ghost use Rattle.frontier.specs.Frontiers.{inserted_all, fits, pairwise, join, m
 ghost use Rattle.frontier.specs.Counts.{added_all, room};
 ghost use Rattle.frontier.specs.Tables.{in_use, Holds, frontier_asks, frontier_size, table_asks, counted};
 
-pub use crate::entries::copy_entries;
 use crate::{FRONTIER_SIZE, insert, update};
 use lattice::{Lattice, PartialOrder};
 use questions::Refusal;

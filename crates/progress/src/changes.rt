@@ -63,7 +63,7 @@ fn is_fresh<D: Same, T: Timestamp, R: Same>(
 }
 
 // Puts the changes of a message that are new to a reader into a table, in their order, and tells how
-// many they are.
+// many they are.  Counted by hand: whether a change is new is asked of those written before it.
 pub fn take_fresh<D: Same + Copy, T: Timestamp + Copy, R: Same + Copy>(
     table: &mut [(D, T, R)],
     changes: &[(D, T, R)],

@@ -1,22 +1,19 @@
 // What both sorts of reader share: statements at work, the lower edge, and which changes are new.
 //
-// All tables are lent to each call; the first entries of each are in use.  `take_fresh`,
-// `keep_beyond`, `append_entries` and `copy_progress` are steps of our own readers, which see that
-// the tables have the entries.
+// All tables are lent to each call; the first entries of each are in use.  `take_fresh` and
+// `keep_beyond` are steps of our own readers, which see that the tables have the entries.
 #![tactic(auto)]
 
+mod advancing;
 mod changes;
-mod copies;
 mod edges;
-mod old;
 mod statements;
 mod tables;
 mod weighing;
 
+pub use advancing::advance;
 pub use changes::{lower_counts, take_fresh};
-pub use copies::{append_entries, copy_progress};
 pub use edges::{keep_beyond, lower_edge};
-pub use old::advance;
 pub use statements::{
     LARGEST_COUNT, Lengths, add_counts, are_sized, is_counted_once, is_inside, is_sized, is_small,
 };

@@ -65,6 +65,7 @@ fn is_uncounted<T: PartialOrder>(counts: &[(T, u32)], time: &T) -> bool
 }
 
 // Whether no time is counted twice, as question 7 asks.
+// A `for` over places: each count is asked of those behind it, which a chain over counts does not see.
 pub fn is_counted_once<T: PartialOrder>(counts: &[(T, u32)]) -> bool
     ensures { result ≡ counted_once T.below (map (count_of T.value) counts.now) }
 {
@@ -95,6 +96,7 @@ pub fn add_counts<T: PartialOrder + Copy>(
 }
 
 // Whether a waiting statement can act: its lower list is at or before the progress frontier.
+// Kept beside `is_passed`: which list is asked is all that each says.
 pub(crate) fn is_ready<T: PartialOrder + Copy>(entry: &StoredProgress<T>, frontier: &[T]) -> bool
     ensures { result ≡ ready T.below (map T.value frontier.now) (stored_statement T.value entry.now) }
 {
@@ -108,7 +110,8 @@ fn is_passed<T: PartialOrder + Copy>(entry: &StoredProgress<T>, frontier: &[T]) 
     antichain_less_equal(entry.view().upper, frontier)
 }
 
-// The place of the first waiting statement that can act, or how many wait where none can.
+// The place of the first waiting statement that can act, or how many wait where none can.  The test says
+// what it answers, since no tactic finds that through the view of an entry.
 pub(crate) fn first_ready<T: PartialOrder + Copy>(
     waiting: &[StoredProgress<T>],
     frontier: &[T],

@@ -6,7 +6,7 @@ ghost use Rattle.capture.specs.Views.{change_of};
 ghost use Rattle.progress.specs.Weighing.{FreshWeighed};
 
 use crate::{CHANGES_SIZE, lower_counts, take_fresh};
-use frontier::steps;
+use frontier::entries::copy_entries;
 use lattice::{Same, Timestamp};
 use questions::Refusal;
 
@@ -38,7 +38,7 @@ pub fn weigh_fresh<D: Same + Copy, T: Timestamp + Copy, R: Same + Copy>(
         return Err(Refusal::ManyChanges);
     }
     let len = counts.len();
-    steps::copy_entries(counts, sums, len);
+    copy_entries(counts, sums, len);
     let fresh = &new[..];
     let m = lower_counts(sums, len, &fresh[0..n])?;
     Ok(Weighed { new: n, counts: m })

@@ -34,6 +34,15 @@ module _ {Y A : Type 0} (value : Y → A) (n : Lengths) (F F' : List Y) (C C' : 
   pub progress_copied : take n.frontier F' ≡ take n.frontier F → take n.counts C' ≡ take n.counts C → take n.waiting W' ≡ take n.waiting W → progress_of value n F' C' W' ≡ progress_of value n F C W
   progress_copied f c w = same_progress (ap (map value) f) (ap (map (counted value)) c) (ap (map (stored_statement value)) w)
 
+-- tables that hold a progress ask the same of a statement, whichever of their sizes is asked first
+module _ {Y D A R : Type 0} (k : Kinds D A R) (s : Statement A) (value : Y → A) {n n₀ : Lengths} (F : List Y) (C : List (Y × ℤ)) (W : List (StoredProgress Y)) (join : List Y) (e : n ≡ n₀) where
+  pub asked_alike : frontier_size ≤ length join → progress_sized n₀ F C W join ≡ true
+      → first_no ((progress_sized n₀ F C W join, 1) ∷ statement_asks k.time s (progress_of value n₀ F C W)) ≡ first_no ((sized frontier_size 0 (length join), 1) ∷ statement_asks k.time s (progress_of value n F C W))
+  asked_alike spare roomy =
+      ask_next (progress_sized n₀ F C W join) 1 (statement_asks k.time s (progress_of value n₀ F C W)) roomy
+      ∙ ap (λ m. first_no (statement_asks k.time s (progress_of value m F C W))) (sym e)
+      ∙ sym (ask_next (sized frontier_size 0 (length join)) 1 (statement_asks k.time s (progress_of value n F C W)) (sized_yes frontier_size 0 (length join) (omega arith) spare))
+
 -- the numbers of tables that hold a progress are its lengths
 pub progress_lengths : {Y A : Type 0} (value : Y → A) (n : Lengths) (F : List Y) (C : List (Y × ℤ)) (W : List (StoredProgress Y)) (q : Progress A) → ProgressSized n F C W → progress_of value n F C W ≡ q → n ≡ lengths_of q
 progress_lengths value n F C W q h e =

@@ -5,7 +5,7 @@ ghost use Rattle.source.specs.Calls.{Noted, timed, bare};
 use super::Prompt;
 use capture::{Progress, StoredProgress};
 use lattice::{PartialOrder, Timestamp};
-use progress::{advance, copy_progress};
+use progress::ProgressTables;
 use questions::Refusal;
 
 // The tables that a note works in.
@@ -41,18 +41,23 @@ impl Prompt {
         if !self.are_note_sized(frontier, counts, waiting, times, sums, statements, join) {
             return Err(Refusal::ShortTable);
         }
-        copy_progress(
-            self.progress,
+        let lengths = self.progress;
+        let mut own = ProgressTables {
+            lengths,
             frontier,
             counts,
             waiting,
-            times,
-            sums,
-            statements,
-        );
-        let n = advance(statement, times, sums, statements, self.progress, join)?;
-        copy_progress(n, times, sums, statements, frontier, counts, waiting);
-        self.progress = n;
+        };
+        let mut made = ProgressTables {
+            lengths,
+            frontier: times,
+            counts: sums,
+            waiting: statements,
+        };
+        own.copy_to(&mut made);
+        made.advance(statement, join)?;
+        made.copy_to(&mut own);
+        self.progress = own.lengths;
         Ok(())
     }
 }

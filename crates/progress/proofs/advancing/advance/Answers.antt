@@ -7,7 +7,7 @@ use Rattle.capture.specs.Views.{statement_of}
 use Rattle.progress.specs.Tables.{time_of, progress_of, progress_sized}
 use Rattle.progress.specs.Lent.{progress_in}
 use Rattle.progress.proofs.Acting.{same_progress}
-use Rattle.progress.proofs.old.advance.Goals as goal
+use Rattle.progress.proofs.advancing.advance.Goals as goal
 
 pub returns : goal.returns
 returns g c =
