@@ -18,11 +18,6 @@ pub asked_all : (a : Bool) (n : ℕ) (qs : List (Bool × ℕ)) → first_no ((a,
 asked_all true n qs e = (refl, e)
 asked_all false n qs e = let z : ◌≡◌ {A = ℕ} 0 1 = cc in absurd (omega arith)
 
--- where another question was answered no, this one was answered yes
-pub asked_on : (a : Bool) (n m : ℕ) (qs : List (Bool × ℕ)) → (n ≡ m → ⊥) → first_no ((a, n) ∷ qs) ≡ Some m → (a ≡ true) × (first_no qs ≡ Some m)
-asked_on true n m qs other e = (refl, e)
-asked_on false n m qs other e = absurd (other (cc))
-
 -- the same answer to questions that come to the same, with less promised
 pub answered_so : {X : Type 0} (r : Result X Refusal) (asks asks' : List (Bool × ℕ)) {P P' : X → Type 0} {Q Q' : Type 0} → first_no asks ≡ first_no asks' → ((x : X) → P x → P' x) → (Q → Q') → Answered r asks P Q → Answered r asks' P' Q'
 answered_so (Ok x) asks asks' e f g h = (sym e ∙ h.0, f x h.1)
