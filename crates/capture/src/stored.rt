@@ -1,6 +1,7 @@
 // Messages in stored form, one entry of a table to a message.
 //
-// Nothing about an entry is assumed: whatever it holds reads as some message that is not too long.
+// Whatever an entry holds reads as some message that is not too long, since a row is never longer than its
+// places.
 ghost use Rattle.std.specs.Prelude.{◌≡◌, true, []};
 ghost use Rattle.capture.specs.Messages.{changes, short, short_statement};
 ghost use Rattle.capture.specs.Views.{message_of, statement_of};

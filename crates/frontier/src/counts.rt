@@ -8,7 +8,8 @@ ghost use Rattle.frontier.specs.Tables.{in_use, Holds, table_asks, counted};
 use lattice::{PartialOrder, same_time};
 use questions::Refusal;
 
-// The place of the time's entry, or the table's length where it has none.
+// The place of the time's entry; where it has none, the place that an entry of it would have, behind the
+// last.
 fn find<T: PartialOrder>(table: &[(T, i64)], time: &T) -> usize
     ensures { result ≡ prefix_len (other T.below (T.value time.now)) (map (counted T.value) table.now) }
 {

@@ -1,6 +1,7 @@
 // Frontiers and counts, written once for every kind of time.
 //
-// A table is a lent slice whose first entries are in use.  A frontier has at most 32 times, so a
+// A table is a lent slice whose first entries are in use, and how many is a number beside it: no call
+// allocates (a rule of the project).  A frontier has at most 32 times, so a
 // table for one has at least 32 entries; a longer one is taken, and its further entries are left
 // alone.  A refused call leaves every table as it was.
 #![tactic(auto)]

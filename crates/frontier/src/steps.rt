@@ -55,7 +55,8 @@ pub fn extend<T: PartialOrder + Copy>(
 }
 
 // Adds each amount that the iterator gives to the count of its time, in a table that has `len`
-// entries in use and at most `limit`, and tells how many it has then.
+// entries in use and at most `limit`, and tells how many it has then.  Kept beside `insert_all`: the step
+// and what it asks are all that each says.
 pub fn update_all<T: PartialOrder + Copy, I: Iterator<Item = (T, i64)>>(
     table: &mut [(T, i64)],
     len: usize,

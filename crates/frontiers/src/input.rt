@@ -4,11 +4,9 @@ ghost use Rattle.frontiers.specs.Input.{side_of, letter_of, line_says};
 ghost use Rattle.lines.specs.Values.{time_value};
 
 use lattice::Product;
-use lines::{Time, cut, number};
+use lines::{TAB, Time, cut, number};
 use std::fmt;
 use timetable::Week;
-
-const TAB: u8 = 9;
 
 // The list that a line belongs to.
 #[derive(Clone, Copy, Debug, PartialEq, Eq)]
@@ -42,7 +40,7 @@ impl fmt::Display for Expected {
     }
 }
 
-// The list that a letter names.
+// The list that a letter names, matched as it stands in the input (a rule of the project).
 fn side_of(kind: char) -> Option<Side>
     ensures { result ≡ side_of kind }
 {

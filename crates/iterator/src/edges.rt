@@ -35,7 +35,8 @@ pub(crate) fn copy_behind<D: Same + Copy, T: PartialOrder + Copy, R: Same + Copy
 
 // Publishes the held changes behind the lower edge where that differs from the reported frontier,
 // and reports the edge.  Tells how many changes went out and how many times the edge has, if any.
-// The tables come one by one: a call by `&mut` on a struct of several kinds of entries is not covered.
+// The tables come one by one: a call by `&mut` on a struct with two or more type parameters that holds
+// `&mut` slices is not covered.
 pub(crate) fn publish<D: Same + Copy, T: PartialOrder + Copy, R: Same + Copy>(
     edge: &[T],
     reported: &mut [T],

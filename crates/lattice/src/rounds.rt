@@ -27,6 +27,7 @@ impl Lattice for u64 {
 
     ghost meets = { Prim.search rules };
 
+    // Kept beside `meet`: the one word that differs is all that each says.
     fn join(&self, other: &u64) -> u64 {
         (*self).max(*other)
     }

@@ -12,7 +12,8 @@ use crate::numbers::number;
 use lattice::Product;
 use timetable::{Amount, Lesson, Week};
 
-const TAB: u8 = b'\t';
+// The byte that parts the fields of a line.
+pub const TAB: u8 = b'\t';
 
 // The fields that are left, parted by tabs.
 #[derive(Drop)]

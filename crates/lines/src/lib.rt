@@ -16,10 +16,11 @@ mod updates;
 
 pub use block::MessageBlock;
 pub use cuts::cut;
+pub use fields::TAB;
 pub use file::check_lines;
 use lattice::Product;
 pub use line::{Line, read_line};
-pub use line_reader::LineReader;
+pub use line_reader::{LINE_END, LineReader};
 pub use malformed::Malformed;
 pub use numbers::number;
 use timetable::Week;

@@ -34,7 +34,8 @@ fn bare(line: Line, rest: &[u8]) -> Option<Line>
     rest.is_empty().then_some(line)
 }
 
-// What a line of the kind says, by the bytes behind the letter.
+// What a line of the kind says, by the bytes behind the letter.  The kind is a letter, matched as it stands
+// in the file (a rule of the project).
 fn read_kind(kind: char, rest: &[u8]) -> Option<Line>
     ensures { Finds result line_value (kind_says kind rest.now) }
 {

@@ -4,9 +4,11 @@ ghost use Rattle.lines.specs.Cuts.{cut_at};
 
 use crate::cuts::cut;
 
-const LINE_END: u8 = b'\n';
+// The byte that ends a line.
+pub const LINE_END: u8 = b'\n';
 
-// Hands out the lines of a file, from the first on.
+// Hands out the lines of a file, from the first on: the bytes and a place in them, without a copy (a rule
+// of the project).
 #[derive(Clone, Copy)]
 pub struct LineReader<'a> {
     // the bytes of the whole file

@@ -1,6 +1,7 @@
 // What both sorts of reader share: statements at work, the lower edge, and which changes are new.
 //
-// All tables are lent to each call; the first entries of each are in use.  `take_fresh` and
+// All tables are lent to each call, which allocates nothing (a rule of the project); the first entries of
+// each are in use.  `take_fresh` and
 // `keep_beyond` are steps of our own readers, which see that the tables have the entries.
 #![tactic(auto)]
 

@@ -65,7 +65,7 @@ fn is_uncounted<T: PartialOrder>(counts: &[(T, u32)], time: &T) -> bool
 }
 
 // Whether no time is counted twice, as question 7 asks.
-// A `for` over places: each count is asked of those behind it, which a chain over counts does not see.
+// A `for` over places: tried as `enumerate().all(..)`, where the answer's tie to the meaning stayed open.
 pub fn is_counted_once<T: PartialOrder>(counts: &[(T, u32)]) -> bool
     ensures { result ≡ counted_once T.below (map (count_of T.value) counts.now) }
 {
@@ -110,8 +110,8 @@ fn is_passed<T: PartialOrder + Copy>(entry: &StoredProgress<T>, frontier: &[T]) 
     antichain_less_equal(entry.view().upper, frontier)
 }
 
-// The place of the first waiting statement that can act, or how many wait where none can.  The test says
-// what it answers, since no tactic finds that through the view of an entry.
+// How many statements wait before the first that can act; that is all of them where none can.  The test
+// says what it answers, since no tactic finds that through the view of an entry.
 pub(crate) fn first_ready<T: PartialOrder + Copy>(
     waiting: &[StoredProgress<T>],
     frontier: &[T],

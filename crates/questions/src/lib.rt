@@ -64,6 +64,7 @@ impl From<Refusal> for u8 {
     }
 }
 
+// By hand: what `thiserror` writes promises nothing of the words.
 impl fmt::Display for Refusal {
     ghost output = { λ refusal. Some (words_of refusal) };
 

@@ -46,7 +46,7 @@ pub(crate) fn announce<T: PartialOrder + Copy>(
         (λ n. Holds (count_of T.value) n table.new (announced T.below (map T.value upper.now) (map (counted T.value) counts.now)))
         (Unit {0}) }
 {
-    // counted by hand: the places are those of what is written, and a chain would not tell how many
+    // Counted by hand: after a chain that writes through its closure nothing is known of the table.
     let mut n = 0usize;
     for c in counts {
         if !is_beyond(upper, &c.0) {
@@ -58,8 +58,8 @@ pub(crate) fn announce<T: PartialOrder + Copy>(
     Ok(n)
 }
 
-// Keeps those of the first `len` counts whose times are beyond the list, and tells how many they
-// are.
+// Keeps those of the first `len` counts whose times are beyond the list, and tells how many they are.
+// One line over `retain`, as that for changes: where an entry has its time is all that differs.
 pub(crate) fn keep_beyond<T: PartialOrder + Copy>(
     counts: &mut [(T, i64)],
     len: usize,

@@ -1,4 +1,7 @@
 // The sender and its pumps.
+//
+// All tables are lent to each call, which allocates nothing: the first entries of each are in use, and
+// the sender is the numbers of these (a rule of the project).
 #![tactic(auto)]
 
 mod announcing;

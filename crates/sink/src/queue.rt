@@ -55,7 +55,7 @@ impl Queue {
     }
 
     // Offers the messages to a post, and takes out those that it took.  Tells whether work remains,
-    // and the post's wait.
+    // and the post's wait: a pump answers that pair (a rule of the project).
     pub(crate) fn pump<D: Same + Copy, T: Timestamp + Copy, R: Same + Copy, W: Writer<D, T, R>>(
         &mut self,
         table: &mut [StoredMessage<D, T, R>],

@@ -43,7 +43,7 @@ fn is_disputed_beyond<D: Same, T: Timestamp, R: Same>(
 
 // Whether no change beyond the frontier is disputed by a pending or an earlier one, as question 8
 // asks.
-// A `for` over places: each change is asked of those before it, which a chain over changes does not see.
+// A `for` over places: tried as `enumerate().all(..)`, where the answer's tie to the meaning stayed open.
 pub(crate) fn is_undisputed<D: Same, T: Timestamp, R: Same>(
     changes: &[(D, T, R)],
     frontier: &[T],

@@ -1,4 +1,4 @@
-// A post in a table.
+// A post in a table, which is lent, since a post allocates nothing (a rule of the project).
 #![tactic(auto)]
 
 ghost use Rattle.std.specs.Prelude.{◌≡◌, ◌≤◌, true, ◌&&◌, [], ◌∷◌, map, length, nat_le, nat_lt};

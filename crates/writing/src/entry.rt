@@ -5,8 +5,8 @@ ghost use Rattle.writing.specs.Puts.{Puts, change_value, count_value, lettered_l
 ghost use Rattle.writing.specs.Writing.{FormedTime, FormedChange, FormedCount};
 
 use crate::full::Full;
-use crate::line_writer::{LINE_END, LineWriter, TAB};
-use lines::Time;
+use crate::line_writer::LineWriter;
+use lines::{LINE_END, TAB, Time};
 use timetable::{Amount, Lesson};
 
 // What is written behind a byte that says what it is: a tab, or the letter of a line.

@@ -8,6 +8,7 @@ use std::fmt;
 #[derive(Clone, Copy, Debug, PartialEq, Eq)]
 pub struct Full;
 
+// By hand: what `thiserror` writes promises nothing of the words.
 impl fmt::Display for Full {
     ghost output = { λ _. Some (codes "the text does not fit") };
 

@@ -4,10 +4,7 @@ ghost use Rattle.std.specs.Prelude.{◌≡◌, ◌≤◌, length};
 use crate::entry::Entry;
 use crate::full::Full;
 use itoa::{Buffer, Integer};
-
-pub(crate) const TAB: u8 = b'\t';
-
-pub(crate) const LINE_END: u8 = b'\n';
+use lines::{LINE_END, TAB};
 
 // A lent block of bytes in which each text is written behind the one before.  After a text that
 // did not fit, a part of it may stand behind what was written before.

@@ -11,7 +11,8 @@ use crate::edges::publish;
 use lattice::{PartialOrder, Same};
 
 impl Held {
-    // Publishes what lies behind the lower edge, if that has moved, and reports the edge.
+    // Publishes what lies behind the lower edge, if that has moved, and reports the edge.  The tables come
+    // one by one, as to `publish`.
     pub(crate) fn let_out<D: Same + Copy, T: PartialOrder + Copy, R: Same + Copy>(
         &mut self,
         edge: &[T],
