@@ -18,7 +18,8 @@ impl<'a, D: Same + Copy, T: Timestamp + Copy, R: Same + Copy> Feeding<'a, D, T, 
     ghost use Rattle.iterator.specs.Feeding.{Ready, WeighsStatement, Takes};
 
     // Finds out what a statement would make of the reader's progress, and the lower edge then.  Tells
-    // how much of each scratch table is in use.
+    // how much of each scratch table is in use.  Copied table by table: `&self` lends no `&mut` tables, as
+    // tables that are lent together ask.
     fn weigh_statement(
         &self,
         statement: Progress<'_, T>,
