@@ -1,34 +1,9 @@
-use Rattle.std.proofs.Common.{◌≡◌, ◌+◌, ◌<◌, ◌++◌, length, take, drop, pos, ◌+ℤ◌, sym, ap, ◌∙◌, arith, w64, SFits, to_z, of_z, rules}
+use Rattle.std.proofs.Common.{◌≡◌, ◌+◌, ◌<◌, ◌++◌, length, take, drop, ◌+ℤ◌, sym, ap, ◌∙◌, arith, w64, SFits, to_z, of_z, rules}
 use Rattle.std.proofs.lemmas.List.{drop-set-lt, get_or_read}
 use Rattle.std.proofs.lemmas.Int.{to_z-of_z}
 use Rattle.frontier.specs.Counts.{entry, stopped}
-use Rattle.frontier.proofs.Adding.{changed_none, changed_one}
+use Rattle.frontier.proofs.Adding.{changed_one}
 use Rattle.frontier.proofs.counts.change_at.Goals as goal
-
-pub returns-then-sum-eq0 : goal.returns-then-sum-eq0
-returns-then-sum-eq0 g c =
-    let r = c.index-table-at.result in
-    let s = c.saturating_add-sum.result in
-    let inside : c.args.at < length c.args.table.now = omega (arith, c.requires.0, c.requires.1) in
-    let amount-fits : SFits w64 c.args.amount = search rules in
-    let count_fits : SFits w64 r.1 = search rules in
-    let sum_fits : SFits w64 s = search rules in
-    let sum : s ≡ stopped (r.1 +ℤ c.args.amount) = simp to_z-of_z at c.saturating_add-sum.ensures in
-    let none : s ≡ pos 0 = sym (to_z-of_z w64 s sum_fits) ∙ ap (to_z w64) c.if-sum-eq0.true in
-    record {
-      within = omega arith;
-      after = λ e is.
-          let same : r ≡ e = get_or_read c.args.table.now c.args.at r inside c.index-table-at.is e ∙ sym is in
-          changed_none c.args.table.now c.args.len c.args.at r s c.requires.0 c.requires.1 c.remove_at.new.table none c.remove_at.ensures.front
-          ∙ ap (λ v. take c.args.at c.args.table.now ++ (entry r.0 v ++ drop (c.args.at + 1) (take c.args.len c.args.table.now))) sum
-          ∙ ap (λ v. take c.args.at c.args.table.now ++ (entry v.0 (stopped (v.1 +ℤ c.args.amount)) ++ drop (c.args.at + 1) (take c.args.len c.args.table.now))) same;
-      rest = c.remove_at.ensures.rest;
-    }
-
-pub offset_bounds-table-at-2 : goal.offset_bounds-table-at-2
-offset_bounds-table-at-2 g c =
-    let h : c.args.at < length c.args.table.now = omega arith in
-    search rules
 
 pub returns : goal.returns
 returns g c =

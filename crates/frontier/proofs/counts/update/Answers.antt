@@ -4,12 +4,9 @@ use Rattle.std.proofs.lemmas.Int.{to_z-of_z}
 use Rattle.std.proofs.lemmas.Bool.{le-leb, lt-leb}
 use Rattle.frontier.specs.Counts.{other}
 use Rattle.frontier.specs.Tables.{in_use, counted}
-use Rattle.frontier.proofs.Tables.{drop_on, table_short, table_fits, table_full}
+use Rattle.frontier.proofs.Tables.{drop_on, table_fits, table_full}
 use Rattle.frontier.proofs.Adding.{placed, update_hit, update_none, length_more, update_more}
 use Rattle.frontier.proofs.counts.update.Goals as goal
-
-pub returns-then-len-limit : goal.returns-then-len-limit
-returns-then-len-limit g c = record { answer = (table_short c.args.limit 11 _ _ _ c.then-len-limit.either, refl); rest = refl }
 
 pub returns-then-at-len : goal.returns-then-at-len
 returns-then-at-len g c =

@@ -1,4 +1,4 @@
-use Rattle.std.proofs.Common.{◌≤◌, map, length, refl, sym, ap, ◌∙◌, subst, arith, rules}
+use Rattle.std.proofs.Common.{◌≤◌, map, length, sym, ap, ◌∙◌, subst, arith}
 use Rattle.std.specs.Iterator.{AlwaysYields}
 use Rattle.std.proofs.iter.Next.{on}
 use Rattle.std.proofs.lemmas.List.{map_push}
@@ -6,12 +6,9 @@ use Rattle.std.proofs.lemmas.Result.{err_from_is_err_and}
 use Rattle.questions.specs.Questions.{number_of, first_no}
 use Rattle.frontier.specs.Frontiers.{fits}
 use Rattle.frontier.specs.Tables.{in_use, frontier_size, frontier_asks}
-use Rattle.frontier.proofs.Filling.{filled_none, filled_more, filled_stop, filled_all, inserting}
+use Rattle.frontier.proofs.Filling.{filled_more, filled_stop, filled_all, inserting}
 use Rattle.frontier.proofs.Yielding.{yields_on, yields_end}
 use Rattle.frontier.proofs.steps.insert_all.Goals as goal
-
-pub loop-t-init : goal.loop-t-init
-loop-t-init g c = (search rules, search rules, omega arith, filled_none (inserting g.T.PartialOrder.below) _, refl)
 
 pub returns-in_err-n : goal.returns-in_err-n
 returns-in_err-n g c =

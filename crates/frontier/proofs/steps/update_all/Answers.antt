@@ -1,4 +1,4 @@
-use Rattle.std.proofs.Common.{◌≤◌, map, length, refl, sym, ap, ◌∙◌, subst, arith, rules, ℤ, w64, SFits}
+use Rattle.std.proofs.Common.{◌≤◌, map, length, sym, ap, ◌∙◌, subst, arith, rules, ℤ, w64, SFits}
 use Rattle.std.specs.Iterator.{AlwaysYields}
 use Rattle.std.proofs.iter.Next.{on}
 use Rattle.std.proofs.lemmas.Int.{to_z-of_z}
@@ -7,12 +7,9 @@ use Rattle.std.proofs.lemmas.Result.{err_from_is_err_and}
 use Rattle.questions.specs.Questions.{number_of, first_no}
 use Rattle.frontier.specs.Counts.{room}
 use Rattle.frontier.specs.Tables.{in_use, counted, table_asks}
-use Rattle.frontier.proofs.Filling.{filled_none, filled_more, filled_stop, filled_all, adding}
+use Rattle.frontier.proofs.Filling.{filled_more, filled_stop, filled_all, adding}
 use Rattle.frontier.proofs.Yielding.{yields_on, yields_end}
 use Rattle.frontier.proofs.steps.update_all.Goals as goal
-
-pub loop-time-init : goal.loop-time-init
-loop-time-init g c = (search rules, search rules, omega arith, filled_none (adding g.T.PartialOrder.below c.args.limit) _, refl)
 
 pub returns-in_err-n : goal.returns-in_err-n
 returns-in_err-n g c =

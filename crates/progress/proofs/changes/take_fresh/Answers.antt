@@ -1,8 +1,8 @@
 use Rattle.std.proofs.Common.{◌≡◌, ◌+◌, ◌<◌, [], ◌∷◌, ◌++◌, map, length, take, drop, set, sym, ap, ◌∙◌, arith}
-use Rattle.std.proofs.lemmas.List.{append-nil, take_more_set, map_push}
+use Rattle.std.proofs.lemmas.List.{take_more_set, map_push}
 use Rattle.frontier.specs.Tables.{in_use}
 use Rattle.frontier.proofs.Tables.{sub_zero}
-use Rattle.frontier.proofs.Walks.{next, walked}
+use Rattle.frontier.proofs.Walks.{next}
 use Rattle.capture.specs.Kinds.{kinds}
 use Rattle.capture.specs.Messages.{fresh}
 use Rattle.capture.specs.Views.{change_of}
@@ -31,12 +31,3 @@ loop-c-preserved g c =
       | else-is_fresh w ↦
           rw (w.table-is, w.n-is) (omega (arith, c.loop-c.invariant.0), sym (turn ∙ fresh_no k f held new (reads x) rest (test ∙ w.if-is_fresh.false)) ∙ c.loop-c.invariant.1)
     ]
-
-pub returns : goal.returns
-returns g c =
-    let k = kinds g.D.Same.alike g.T.PartialOrder.below g.T.Lattice.joined g.T.Timestamp.start g.R.Same.alike in
-    let reads = change_of g.D.Same.value g.T.PartialOrder.value g.R.Same.value in
-    let f = map g.T.PartialOrder.value c.args.frontier.now in
-    let held = map reads c.args.held.now in
-    let new = in_use reads c.loop-c.n c.loop-c.table in
-    record { within = omega (arith, c.loop-c.invariant.0); after = sym (append-nil new) ∙ sym (walked reads c.args.changes.now c.loop-c.c-index (λ ys. new ++ fresh k f (held ++ new) ys) c.loop-c-test.false) ∙ c.loop-c.invariant.1 }
