@@ -14,7 +14,7 @@ use std::alloc::Global;
 pub struct Input {
     pub first: Vec<Time>,
     pub second: Vec<Time>,
-    // how many lines were read
+    // how many lines were read: what a line adds and its number are one step of the meaning
     pub lines: usize,
 }
 
