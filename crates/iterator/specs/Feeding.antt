@@ -56,3 +56,7 @@ module _ {D T R C A B : Type 0} (k : Kinds C A B) (value : T → A) (reads : D �
   Takes m r f b =
       Fed value reads k true m r f.reader.now (own f) b.0.now (tables b.1.0.now b.1.1.0.now b.1.1.1.0.now b.1.1.1.1.0.now b.1.1.1.1.1.0.now)
       f.published.now b.1.1.1.1.1.1.0.now f.told.now b.1.1.1.1.1.1.1.0.now
+
+-- changes leave the progress frontier and the waiting statements as they were, also beyond what is in use
+abbrev pub Rests : {D T R : Type 0} → Feeding D T R → Back D T R → Type 0
+Rests f b = (b.1.0.now ≡ f.frontier.now) × (b.1.1.1.1.1.0.now ≡ f.waiting.now)

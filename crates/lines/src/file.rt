@@ -12,6 +12,12 @@ pub fn check_lines(bytes: &[u8], block: &mut MessageBlock) -> Result<(), Malform
     ensures { MatchResult result (λ _. (ms : List LessonMessage) × (file_says bytes.now ≡ Ok ms)) (λ e. file_says bytes.now ≡ Err e.line) }
 {
     let mut lines = LineReader::new(bytes);
-    while block.read(&mut lines)? {}
-    Ok(())
+    // A `match`, so that an edit of the line that is named keeps the shape.
+    loop {
+        match block.read(&mut lines) {
+            Ok(true) => {}
+            Ok(false) => return Ok(()),
+            Err(malformed) => return Err(malformed),
+        }
+    }
 }

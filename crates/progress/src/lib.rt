@@ -1,12 +1,13 @@
 // What both sorts of reader share: statements at work, the lower edge, and which changes are new.
 //
 // All tables are lent to each call, which allocates nothing (a rule of the project); the first entries of
-// each are in use.  `take_fresh` and
+// each are in use.  `copy_progress`, `take_fresh` and
 // `keep_beyond` are steps of our own readers, which see that the tables have the entries.
 #![tactic(auto)]
 
 mod advancing;
 mod changes;
+mod copies;
 mod edges;
 mod statements;
 mod tables;
@@ -14,6 +15,7 @@ mod weighing;
 
 pub use advancing::advance;
 pub use changes::{lower_counts, take_fresh};
+pub use copies::copy_progress;
 pub use edges::{keep_beyond, lower_edge};
 pub use statements::{
     LARGEST_COUNT, Lengths, add_counts, are_sized, is_counted_once, is_inside, is_sized, is_small,

@@ -72,3 +72,11 @@ where_refused (Err e) f h = f h
 -- a sender is the same where its numbers and queues are
 pub same_sender : (f c : ℕ) (u u' p p' : Queue) (a a' : f ≤ 32) (b b' : c ≤ 256) → u ≡ u' → p ≡ p' → ◌≡◌ {A = OpenSender} (record { frontier = f; counts = c; updates = u; progress = p; few_times = a; few_counts = b }) (record { frontier = f; counts = c; updates = u'; progress = p'; few_times = a'; few_counts = b' })
 same_sender f c u u' p p' a a' b b' e h = λ i. record { frontier = f; counts = c; updates = e i; progress = h i; few_times = le_prop a a' i; few_counts = le_prop b b' i }
+
+-- where the pump of a queue refuses, its sender stays as it was
+module _ {X : Type 0} (A B : Type 0) (r : Result X Refusal) (s : OpenSender) where
+  pub updates_refused : (u : Queue) (a : s.frontier ≤ 32) (b : s.counts ≤ 256) → WhereRefused r ((u ≡ s.updates) × A × B) → WhereRefused r ((◌≡◌ {A = OpenSender} (record { frontier = s.frontier; counts = s.counts; updates = u; progress = s.progress; few_times = a; few_counts = b }) s) × A × B)
+  updates_refused u a b h = where_refused r (λ k. (same_sender s.frontier s.counts u s.updates s.progress s.progress a s.few_times b s.few_counts k.0 refl, k.1, k.2)) h
+
+  pub progress_refused : (p : Queue) (a : s.frontier ≤ 32) (b : s.counts ≤ 256) → WhereRefused r ((p ≡ s.progress) × A × B) → WhereRefused r ((◌≡◌ {A = OpenSender} (record { frontier = s.frontier; counts = s.counts; updates = s.updates; progress = p; few_times = a; few_counts = b }) s) × A × B)
+  progress_refused p a b h = where_refused r (λ k. (same_sender s.frontier s.counts s.updates s.updates p s.progress a s.few_times b s.few_counts refl k.0, k.1, k.2)) h

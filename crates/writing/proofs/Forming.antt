@@ -1,5 +1,6 @@
 -- What stored values read as has its form.
-use Rattle.std.proofs.Common.{◌≡◌, ℕ, ◌≤◌, Bool, true, ◌&&◌, List, map, negsuc, refl, arith}
+use Rattle.std.proofs.Common.{◌≡◌, ℕ, ◌≤◌, Bool, true, ◌&&◌, List, map, negsuc, Some, None, Option, refl, arith}
+use Rattle.std.specs.Option.{OnSome}
 use Rattle.std.specs.List.{AllByRecursion}
 use Rattle.std.proofs.ByRecursion.{All-map, All-weaker}
 use Rattle.std.proofs.lemmas.Bool.{and_from}
@@ -49,3 +50,8 @@ formed_view (Progress s) h =
 
 pub formed_views : (vs : List (View Lesson (Product ℕ Week) Amount)) → AllByRecursion FitsTypes vs → AllByRecursion Formed (map (message_of lesson_value time_value amount_value) vs)
 formed_views = all_map (message_of lesson_value time_value amount_value) FitsTypes Formed formed_view
+
+-- what is said where there is a value, said of more
+pub where_some : {X P Q : Type 0} (o : Option X) → (P → Q) → OnSome o P → OnSome o Q
+where_some None f h = h
+where_some (Some x) f h = f h

@@ -1,5 +1,5 @@
 -- Text put behind what is written already.
-use Rattle.std.specs.Prelude.{◌≡◌, ℕ, ◌+◌, ◌<◌, ◌≤◌, List, ◌∷◌, ◌++◌, length, take, decimal, OnOk, OnErr, Result}
+use Rattle.std.specs.Prelude.{◌≡◌, ℕ, ◌+◌, ◌<◌, ◌≤◌, List, ◌∷◌, ◌++◌, length, take, Some, None, decimal, OnOk, OnErr, Option, Result}
 use Rattle.std.specs.List.{flat_map}
 use Rattle.lattice.specs.declared.product.Product.{Product}
 use Rattle.timetable.specs.declared.week.Week.{Week}
@@ -71,3 +71,8 @@ pub record Puts (result : Result (Unit {0}) Full) (before after : LineWriter) (t
   pub put : OnOk result ((after.len ≡ before.len + length text) × (written after ≡ written before ++ text))
   pub refused : OnErr result (length before.bytes.now < before.len + length text)
   pub kept : OnErr result ((before.len ≤ after.len) × (take before.len after.bytes.now ≡ written before))
+
+-- the text stands behind the first `at` bytes and ends at the place that is told; where it does not fit, these bytes are as before, and what follows them is free
+abbrev pub PutsAt : Option ℕ → List ℕ → List ℕ → ℕ → List ℕ → Type 0
+PutsAt None before after at text = (length after ≡ length before) × (length before < at + length text) × (take at after ≡ take at before)
+PutsAt (Some end) before after at text = (length after ≡ length before) × (end ≤ length before) × (end ≡ at + length text) × (take end after ≡ take at before ++ text)

@@ -66,16 +66,24 @@ impl<'a> LineWriter<'a> {
         if self.bytes.len() - self.len < text.len() {
             return Err(Full);
         }
-        let end = self.len + text.len();
-        self.bytes[self.len..end].copy_from_slice(text);
-        self.len = end;
+        // Byte by byte, since most texts are a few digits.
+        for byte in text {
+            self.bytes[self.len] = *byte;
+            self.len += 1;
+        }
         Ok(())
     }
 
+    #[tactic(auto, using(std::proofs::lemmas::List::take_more_set))]
     pub(crate) fn byte(&mut self, byte: u8) -> Result<(), Full>
         ensures { Puts result self.old self.new (byte ∷ []) }
     {
-        self.text(&[byte])
+        if self.len == self.bytes.len() {
+            return Err(Full);
+        }
+        self.bytes[self.len] = byte;
+        self.len += 1;
+        Ok(())
     }
 
     // A number in base ten behind a byte.  By `itoa`, since `write!` does not say that what it

@@ -1,7 +1,7 @@
 // Messages written as lines.
-ghost use Rattle.std.specs.Prelude.{◌≡◌, map, OnOk, OnErr};
+ghost use Rattle.std.specs.Prelude.{◌≡◌, map, OnSome, OnOk, OnErr};
 ghost use Rattle.capture.specs.Messages.{changes, statement};
-ghost use Rattle.writing.specs.Puts.{change_value, statement_value, message_value, Puts};
+ghost use Rattle.writing.specs.Puts.{change_value, statement_value, message_value, Puts, PutsAt};
 ghost use Rattle.writing.specs.Writing.{lines_of, Formed};
 
 use crate::full::Full;
@@ -54,5 +54,26 @@ impl<'a> LineWriter<'a> {
             self.truncate(before);
         }
         put
+    }
+}
+
+// Writes a message as lines behind the first `at` bytes, and tells where they end; or that they do
+// not fit, and then the first `at` bytes are as before.  What was written has the form that lets it
+// be read back.
+pub fn write_message(
+    out: &mut [u8],
+    at: usize,
+    message: Message<'_, Lesson, Time, Amount>,
+) -> Option<usize>
+    ensures text { PutsAt result out.old out.new at (lines_of (message_value message.entry)) }
+    ensures form { OnSome result (Formed (message_value message.entry)) }
+{
+    if at > out.len() {
+        return None;
+    }
+    let mut lines = LineWriter::behind(out, at);
+    match lines.message(message) {
+        Ok(()) => Some(lines.written().len()),
+        Err(Full) => None,
     }
 }

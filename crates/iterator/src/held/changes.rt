@@ -15,7 +15,7 @@ use progress::{Weighed, lower_edge, weigh_fresh};
 use questions::Refusal;
 
 impl<'a, D: Same + Copy, T: Timestamp + Copy, R: Same + Copy> Feeding<'a, D, T, R> {
-    ghost use Rattle.iterator.specs.Feeding.{own, Ready, WeighsChanges, Takes};
+    ghost use Rattle.iterator.specs.Feeding.{own, Ready, WeighsChanges, Takes, Rests};
 
     // Finds out what changes would make of the reader: which are new, the counts that they lower, and
     // the lower edge then.  Tells how much of each scratch table is in use.
@@ -59,7 +59,8 @@ impl<'a, D: Same + Copy, T: Timestamp + Copy, R: Same + Copy> Feeding<'a, D, T, 
     ) -> Result<Option<(usize, usize)>, Refusal>
         requires reader { Ready self }
         requires scratch { (reader_changes ≤ length new.old) × (reader_counts ≤ length sums.old) × (frontier_size ≤ length edge.old) }
-        ensures { Takes (kinds_by D.Same T.Timestamp R.Same) T.PartialOrder.value (change_of D.Same.value T.PartialOrder.value R.Same.value) (changes_of (map (change_of D.Same.value T.PartialOrder.value R.Same.value) changes.now)) result self.entry self.exit }
+        ensures takes { Takes (kinds_by D.Same T.Timestamp R.Same) T.PartialOrder.value (change_of D.Same.value T.PartialOrder.value R.Same.value) (changes_of (map (change_of D.Same.value T.PartialOrder.value R.Same.value) changes.now)) result self.entry self.exit }
+        ensures rests { Rests self.entry self.exit }
     {
         let (w, end) = self.weigh_changes(changes, new, sums, edge)?;
         let Feeding {

@@ -11,6 +11,7 @@ use questions::Refusal;
 
 impl OpenSender {
     // Offers the queued changes to their post.  Tells whether work remains, and the post's wait.
+    #[tactic(auto, using(crate::proofs::Pumping::updates_refused))]
     pub fn pump_updates<D: Same + Copy, T: Timestamp + Copy, R: Same + Copy, W: Writer<D, T, R>>(
         &mut self,
         queue: &mut [StoredMessage<D, T, R>],
@@ -24,6 +25,7 @@ impl OpenSender {
     }
 
     // Offers the queued statements to their post.  Tells whether work remains, and the post's wait.
+    #[tactic(auto, using(crate::proofs::Pumping::progress_refused))]
     pub fn pump_progress<D: Same + Copy, T: Timestamp + Copy, R: Same + Copy, W: Writer<D, T, R>>(
         &mut self,
         queue: &mut [StoredMessage<D, T, R>],

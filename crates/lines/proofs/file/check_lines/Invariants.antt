@@ -5,8 +5,8 @@ use Rattle.lines.proofs.Opening.{with_messages}
 use Rattle.lines.proofs.file.check_lines.Given as goal
 
 -- the messages so far come before what is ahead
-abbrev pub invariant-loop : goal.invariant-loop
-invariant-loop l = (ms : List LessonMessage) × (file_says l.bytes ≡ with_messages ms (ahead outside l.lines))
+abbrev pub invariant-loop-malformed : goal.invariant-loop-malformed
+invariant-loop-malformed l = (ms : List LessonMessage) × (file_says l.bytes ≡ with_messages ms (ahead outside l.lines))
 
-abbrev pub decreases-loop : goal.decreases-loop
-decreases-loop l = length (left l.lines)
+abbrev pub decreases-loop-malformed : goal.decreases-loop-malformed
+decreases-loop-malformed l = length (left l.lines)

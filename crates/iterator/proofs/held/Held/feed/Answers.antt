@@ -50,6 +50,6 @@ returns g c =
     let yes : all_sized c.args.self.now (lent c.args.tables c.args.waiting.now) P Q z.frontier.now z.counts.now z.waiting.now z.edge.now z.changes.now ≡ true = sym c.are_all_sized.ensures ∙ c.if-not-are_all_sized.false in
     let reading = message_of g.D.Same.value o.value g.R.Same.value in
     elim c.match-message.branch [
-      | in-Updates w ↦ fed_same o.value reads k c.args.self.now (lent c.args.tables c.args.waiting.now) P Q yes (ap reading w.in-Updates.is) w.result-is w.self-is w.frontier-is w.reported-is w.counts-is w.held-is w.waiting-is w.published-is w.told-is w.take_changes.ensures
+      | in-Updates w ↦ fed_same o.value reads k c.args.self.now (lent c.args.tables c.args.waiting.now) P Q yes (ap reading w.in-Updates.is) w.result-is w.self-is w.frontier-is w.reported-is w.counts-is w.held-is w.waiting-is w.published-is w.told-is w.take_changes.ensures.takes
       | in-Progress w ↦ fed_same o.value reads k c.args.self.now (lent c.args.tables c.args.waiting.now) P Q yes (ap reading w.in-Progress.is) w.result-is w.self-is w.frontier-is w.reported-is w.counts-is w.held-is w.waiting-is w.published-is w.told-is w.take_statement.ensures
     ]

@@ -43,8 +43,8 @@ let_out-requires g c =
     let few = few_held k o.value reads f.reader.now (own f) (omega (arith, c.requires.reader.0.4, c.requires.reader.4)) c.args.changes.now told.0 c.in_ok-w.w c.weigh_changes.new.new told.1.0 in
     (simp length-take (omega (arith, told.1.2.2)), c.requires.reader.0.3, c.requires.reader.2, few, omega (arith, c.append_entries.auto.to, c.requires.reader.4), c.requires.reader.6, c.requires.reader.7)
 
-pub returns : goal.returns
-returns g c =
+pub returns-clause-takes : goal.returns-clause-takes
+returns-clause-takes g c =
     let o = g.T.PartialOrder in
     let k = kinds g.D.Same.alike o.below g.T.Lattice.joined g.T.Timestamp.start g.R.Same.alike in
     let reads = change_of g.D.Same.value o.value g.R.Same.value in

@@ -1,6 +1,0 @@
-use Rattle.std.proofs.Common.{refl}
-use Rattle.sink.proofs.Pumping.{where_refused, same_sender}
-use Rattle.sink.proofs.sender.OpenSender.pump_progress.Goals as goal
-
-pub returns-clause-refused : goal.returns-clause-refused
-returns-clause-refused g c = where_refused c.pump.result (λ h. (same_sender _ _ _ _ _ _ _ _ _ _ refl h.0, h.1, h.2)) c.pump.ensures.refused
